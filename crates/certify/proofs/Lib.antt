@@ -1,0 +1,5 @@
+mod Lines
+mod Tallies
+mod Meanings
+mod Once
+mod Buffers

@@ -1,0 +1,3 @@
+pub mod Booleans
+mod Digits
+pub mod Sets

@@ -1,0 +1,12 @@
+pub mod Names
+pub mod Thresholds
+pub mod Blocks
+pub mod Reach
+pub mod Order
+pub mod Member
+pub mod World
+pub mod Seat
+pub mod Promise
+pub mod Cases
+pub mod Renaming
+pub mod Runs
