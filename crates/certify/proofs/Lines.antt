@@ -11,7 +11,7 @@ use Rattle.std.specs.Text.{asciiDigit}
 use Rattle.std.proofs.shelf.Lists.{drop-more, drop-all, take-rest}
 use Rattle.std.proofs.shelf.Tests.{eq-eqb, ne-eqb, eqb-true, lt-ltb, le-ltb, true≢false}
 use Rattle.std.proofs.shelf.Tests.{cond-true, cond-false, cond-both, or-left, or-right, or-from, or-parts}
-use Rattle.members.proofs.Booleans.{and-left, and-right, is-true}
+use Rattle.model.proofs.Tools.{and-left, and-right, is-true}
 use Rattle.certify.specs.Lines.{space, hasSpace, spacePlace, allDigits, valueAfter, SplitAtSpace, Writes, Says}
 
 -- the first space, looked for from place i on

@@ -1,3 +1,2 @@
-pub mod Booleans
 mod Digits
 pub mod Sets

@@ -12,7 +12,7 @@ use lib.Dec.{T, eqb, ltb, eqb·zero-suc, eqb·suc-zero, eqb·suc-suc, leb·suc-s
 use lib.Pow.{shl-exact}
 use Rattle.std.proofs.shelf.Tests.{ne-eqb}
 use Rattle.model.specs.Names.{isIn, different, allBelow}
-use Rattle.members.proofs.Booleans.{and-both, and-left, and-right}
+use Rattle.model.proofs.Tools.{and-both, and-left, and-right}
 use Rattle.members.specs.Sets.{hasBit, limit, Holds, Adds, ListsPinSets}
 use Rattle.members.proofs.Digits.{first-bit, later-bit, set-bit, set-ones, no-bit, bits-pin, half-lt, below-two}
 

@@ -39,7 +39,7 @@ distinct-parents b (x ∷ xs) h =
     distinct-union (b x .parents) (parentsOf b xs) (h x (in-here x xs)) (distinct-parents b xs (λ z t. h z (in-there z x xs t)))
 
 -- ---- so many steps back
-back-keeps : (b : Book) (n : ℕ) (xs : List ℕ) → Within xs (back b n xs)
+pub back-keeps : (b : Book) (n : ℕ) (xs : List ℕ) → Within xs (back b n xs)
 unfolding back
 back-keeps b zero xs x t = t
 back-keeps b (suc n) xs x t = back-keeps b n (union (parentsOf b xs) xs) x (in-union-right x (parentsOf b xs) xs t)

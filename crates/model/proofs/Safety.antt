@@ -13,7 +13,7 @@ use Rattle.model.specs.World.{world, webOf}
 use Rattle.model.specs.Seat.{fit}
 use Rattle.model.specs.Promise.{SignsOne, TakesOne, OneCertified, wholeAll, WebsWhole, OrdersAgree, OrdersGrow, NothingTwice, NothingForged, CausesFirst}
 use Rattle.model.proofs.Tools.{and-both, or-cases}
-use Rattle.model.proofs.Lists.{Within, in-here, in-there, all-in}
+use Rattle.model.proofs.Lists.{In, Within, in-here, in-there, all-in}
 use Rattle.model.proofs.Webs.{SoundWeb}
 use Rattle.model.proofs.Reach.{reached-within}
 use Rattle.model.proofs.TwoWebs.{one-order, order-grows}
@@ -30,14 +30,15 @@ takes-one f b bad es = always-sound f b bad es .web-alone
 pub one-certified : OneCertified
 one-certified = certified-alone
 
--- what is reached from what a sound web holds is in it
-whole : {f : ℕ} {b : Book} {web : List ℕ} → SoundWeb f b web → (xs : List ℕ) → Within xs web → T (wholeAll b web xs)
+-- what is reached from what a web holds is in it, if the parents of what it holds are
+pub whole :
+    (b : Book) (web : List ℕ) → ((x y : ℕ) → In x web → In y (b x .parents) → In y web) → (xs : List ℕ) → Within xs web → T (wholeAll b web xs)
 unfolding wholeAll
-whole s [] h = tt
-whole {b} {web} s (x ∷ xs) h =
+whole b web closed [] h = tt
+whole b web closed (x ∷ xs) h =
     and-both (allIn (reached b x) web) (wholeAll b web xs)
-    (all-in (reached b x) web (reached-within b web (s .closed) x (h x (in-here x xs))))
-    (whole s xs (λ z t. h z (in-there z x xs t)))
+    (all-in (reached b x) web (reached-within b web closed x (h x (in-here x xs))))
+    (whole b web closed xs (λ z t. h z (in-there z x xs t)))
 
 -- a sound web is fit to read the order off
 fits : {f : ℕ} {b : Book} {web : List ℕ} → SoundWeb f b web → (xs : List ℕ) → Within xs web → T (fit f b xs)
@@ -55,7 +56,7 @@ webs-whole f b bad few es i g =
     let s = web-sound f b bad few es i g in
     let certified = always-sound f b bad es .web-certified in
     let web = webOf f b bad i es in
-    (s .once, whole s web (λ x t. t), (λ x t. (certified i x g t, s .all-valid x t)), fits s web (λ x t. t))
+    (s .once, whole b web (s .closed) web (λ x t. t), (λ x t. (certified i x g t, s .all-valid x t)), fits s web (λ x t. t))
 
 pub orders-agree : OrdersAgree
 orders-agree f b bad few next es i j gi gj = one-order (webs-compatible-later f b bad few next es i j gi gj)

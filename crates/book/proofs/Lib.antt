@@ -1,0 +1,4 @@
+mod Blocks
+mod Filling
+mod Below
+mod Growing

@@ -1,0 +1,5 @@
+pub mod Content
+pub mod Views
+pub mod Memory
+pub mod Meeting
+pub mod Books

@@ -1,0 +1,9 @@
+pub mod Steps
+pub mod Sound
+pub mod Places
+pub mod Votes
+pub mod Marks
+pub mod Chains
+pub mod Rising
+pub mod Listing
+pub mod Main
