@@ -1,0 +1,7 @@
+pub mod Bytes
+mod Committee
+mod Digest
+mod Digits
+mod Ideal
+mod Lines
+pub mod Members

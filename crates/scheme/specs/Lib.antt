@@ -1,0 +1,4 @@
+pub mod Bytes
+pub mod Ideal
+pub mod Keys
+pub mod Rehearsal

@@ -1,0 +1,5 @@
+mod Bytes
+mod Feeding
+mod Hashers
+mod Pieces
+mod Squeezing
