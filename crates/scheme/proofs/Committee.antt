@@ -20,7 +20,7 @@ added secrets (Ok more) = Ok (secrets ++ more)
 added secrets (Err e) = Err e
 
 -- A text with a line to read.
-parsed-line : (k n : ℕ) (r : List ℕ) → 0 < length r → parsed k (suc n) r ≡ onLine k (secretOf (firstLine r)) (parsed (k + 1) n (afterLine r))
+pub parsed-line : (k n : ℕ) (r : List ℕ) → 0 < length r → parsed k (suc n) r ≡ onLine k (secretOf (firstLine r)) (parsed (k + 1) n (afterLine r))
 unfolding parsed
 parsed-line k n [] h = absurd (omega arith)
 parsed-line k n (b ∷ bs) h = refl
@@ -55,7 +55,8 @@ module _ (n i : ℕ) (text r : List ℕ) (done : List (List ℕ)) (so-far : pars
   missing h none =
       so-far ∙ ap (λ k. added done (parsed (i + 1) k r)) (left n i h) ∙ ap (added done) (parsed-missing (i + 1) (n - (i + 1)) r none)
 
-  here : i < n → 0 < length r → parsed 1 n text ≡ added done (onLine (i + 1) (secretOf (firstLine r)) (parsed (i + 1 + 1) (n - (i + 1)) (afterLine r)))
+  here : i < n → 0 < length r
+      → parsed 1 n text ≡ added done (onLine (i + 1) (secretOf (firstLine r)) (parsed (i + 1 + 1) (n - (i + 1)) (afterLine r)))
   here h some =
       so-far ∙ ap (λ k. added done (parsed (i + 1) k r)) (left n i h) ∙ ap (added done) (parsed-line (i + 1) (n - (i + 1)) r some)
 

@@ -5,3 +5,4 @@ mod Digits
 mod Ideal
 mod Lines
 pub mod Members
+mod Written

@@ -1,4 +1,5 @@
 pub mod Bytes
 pub mod Ideal
 pub mod Keys
+pub mod Written
 pub mod Rehearsal

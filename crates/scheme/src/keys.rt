@@ -9,6 +9,7 @@ ghost use Rattle.std.specs.declared.option.Option.the-variants.{Some};
 ghost use Rattle.std.specs.declared.result.Result.the-variants.{Ok, Err};
 ghost use Rattle.scheme.specs.declared.keys.KeysError.the-variants.{OutOfMemory};
 ghost use Rattle.scheme.specs.Keys.{keysOf, digitOf, secretOf, firstLine, afterLine, parsed, told};
+ghost use Rattle.scheme.specs.Written.{Reads-back, Reads-back-unended, Only-written};
 use std::alloc::Global;
 use std::alloc::Refused;
 use std::fmt;
@@ -116,7 +117,9 @@ fn split_line(text: &[u8]) -> (&[u8], &[u8])
 impl Keys {
     /// Reads the secrets of a committee of so many members from the bytes of the file KEYS.
     pub fn parse(heap: Global, members: u32, text: &[u8]) -> Result<Keys, KeysError>
-        ensures { λ r. ⌜ Cases r (λ keys. parsed 1 members (now (text .entry)) ≡ Ok (keysOf keys)) (λ e. (e ≡ OutOfMemory → ⊥) → parsed 1 members (now (text .entry)) ≡ Err e) ⌝ }
+        ensures { λ r. ⌜ Cases r
+            (λ keys. parsed 1 members (now (text .entry)) ≡ Ok (keysOf keys))
+            (λ e. (e ≡ OutOfMemory → ⊥) → parsed 1 members (now (text .entry)) ≡ Err e) ⌝ }
     {
         let members = members as usize;
         let mut secrets = Vec::new(heap);
@@ -138,4 +141,13 @@ impl Keys {
         }
         Ok(Keys { secrets })
     }
+}
+
+/// The laws of a file KEYS, as theorems: what is written is read back, and nothing else is read. See specs/Written.antt.
+pub fn keys_laws() -> u8
+    ensures reads_back { λ _. ⌜ Reads-back ⌝ }
+    ensures reads_back_unended { λ _. ⌜ Reads-back-unended ⌝ }
+    ensures only_written { λ _. ⌜ Only-written ⌝ }
+{
+    0
 }

@@ -10,6 +10,7 @@ pub use keys::KeysError;
 pub use keys::KeysErrorDebug;
 pub use keys::KeysErrorDisplay;
 pub use keys::KeysErrorPartialEq;
+pub use keys::keys_laws;
 pub use rehearsal::Rehearsal;
 pub use rehearsal::seat::RehearsalScheme;
 pub use rehearsal::seat::SIGNATURE_LENGTH;

@@ -67,7 +67,9 @@ pub trait Scheme<const LENGTH: usize> {
     fn sign(&mut self, message: &[u8]) -> Result<[u8; LENGTH], SignError>
         ensures value { λ r. ⌜ okPart r ≡ signs (secret (now (self .entry))) (said (now (self .entry))) (now (message .entry)) ⌝ }
         ensures accepted { λ r. ⌜ made r (λ s. right (keys (now (self .entry))) (me (now (self .entry))) (now (message .entry)) s ≡ true) ⌝ }
-        ensures said { λ r. ⌜ Cases r (λ _. said (now (self .exit)) ≡ now (message .entry) ∷ said (now (self .entry))) (λ _. said (now (self .exit)) ≡ said (now (self .entry))) ⌝ }
+        ensures said { λ r. ⌜ Cases r
+            (λ _. said (now (self .exit)) ≡ now (message .entry) ∷ said (now (self .entry)))
+            (λ _. said (now (self .exit)) ≡ said (now (self .entry))) ⌝ }
         ensures keys { λ _. ⌜ keys (now (self .exit)) ≡ keys (now (self .entry)) ⌝ }
         ensures me { λ _. ⌜ me (now (self .exit)) ≡ me (now (self .entry)) ⌝ }
         ensures secret { λ _. ⌜ secret (now (self .exit)) ≡ secret (now (self .entry)) ⌝ };

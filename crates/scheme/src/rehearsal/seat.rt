@@ -47,7 +47,9 @@ fn equal(given: &[u8], right: &[u8; SIGNATURE_LENGTH]) -> bool
 impl Rehearsal {
     /// The seat of a member, which has signed nothing; none where there is no such member.
     pub fn new(keys: Keys, me: u32) -> Option<Rehearsal>
-        ensures { λ r. ⌜ Cases r (length (keysOf keys) ≤ me) (λ seat. (me < length (keysOf keys)) × (seatKeys seat ≡ keysOf keys) × (seatMember seat ≡ me) × (seatSaid seat ≡ [])) ⌝ }
+        ensures { λ r. ⌜ Cases r
+            (length (keysOf keys) ≤ me)
+            (λ seat. (me < length (keysOf keys)) × (seatKeys seat ≡ keysOf keys) × (seatMember seat ≡ me) × (seatSaid seat ≡ [])) ⌝ }
     {
         if me as usize >= keys.secrets.len() {
             return None;

@@ -28,7 +28,8 @@ loop-i-again c =
     let two : 2 ≤ length r = omega arith in
     let within : c .loop-i .i < length (c .loop-i .bytes) = omega arith in (
       one-more (c .args .line .now) (c .loop-i .bytes) r (c .loop-i .i) (c .in-Continue-high .high) (c .in-Continue-low .low) within two
-          (c .loop-i .inv .0) (sym (c .digit .ensures) ∙ c .in-Continue-high .was tt) (sym (c .digit-in-loop-i .ensures) ∙ c .in-Continue-low .was tt),
+          (c .loop-i .inv .0) (sym (c .digit .ensures) ∙ c .in-Continue-high .was tt)
+          (sym (c .digit-in-loop-i .ensures) ∙ c .in-Continue-low .was tt),
       simp (length-take, length-drop) (omega arith),
       simp length-set (c .loop-i .inv .2),
     )

@@ -55,11 +55,13 @@ module _ {M : Type 1} (𝓤 : URA M) (H : Heap 𝓤) (A : Atoms 𝓤) (W : Given
     exits : ent 𝓤 (sep 𝓤 toks (sem 𝓤 H A (the-row .own (record { said = [] }) (made ∷ [])))) (Post made)
     exits =
         qed W (raw toks ∷ ‵ (the-row .own (record { said = [] }) (made ∷ [])) ∷ []) ∵
-        suffices ! _ (ends-at 𝓤 H A ended stayed held W z made (record { said = [] }) tt tt) $ says ! refl $ nothing ! $ move ! (0 ∷ 2 ∷ []) $ join ! $ move ! (1 ∷ 0 ∷ []) $ join ! $ done !
+        suffices ! _ (ends-at 𝓤 H A ended stayed held W z made (record { said = [] }) tt tt) $ says ! refl $
+        nothing ! $ move ! (0 ∷ 2 ∷ []) $ join ! $ move ! (1 ∷ 0 ∷ []) $ join ! $ done !
 
     walks : ent 𝓤 (walkOf 𝓤 H A ended stayed held .pre z) (WpFn 𝓤 H C Λ function [] Post)
     walks =
-        qed W ((raw toks ⊛ ‵ (owns (typesAt (ended .signature .params) (z .0 .0)) (z .0 .3) (z .0 .4))) ∷ raw (held (z .0 .0) (z .0 .3) .requires (z .1)) ∷ []) ∵
+        qed W ((raw toks ⊛ ‵ (owns (typesAt (ended .signature .params) (z .0 .0)) (z .0 .3) (z .0 .4)))
+        ∷ raw (held (z .0 .0) (z .0 .3) .requires (z .1)) ∷ []) ∵
         split ! $ keep ! (0 ∷ []) $
         nothing ! $ feqI ! (List Val) (made ∷ []) (made ∷ []) refl $ fjoin ! $
         fpack ! (Valss []) (within (shape the-type) tt (made ∷ [])) tt $ nothing ! $ move ! (1 ∷ 0 ∷ []) $ fjoin ! $

@@ -73,9 +73,11 @@ module _ {M : Type 1} (𝓤 : URA M) (H : Heap 𝓤) (A : Atoms 𝓤) (W : Given
         suffices ! _ (ends-at 𝓤 H A ended stayed held W (At z) made one-more (tt, (tt, tt)) (tt, (tt, tt))) $ says ! refl $
         nothing ! $ nothing ! $ fjoin ! $ nothing ! $ fjoin ! $ move ! (0 ∷ 2 ∷ []) $ join ! $ move ! (1 ∷ 0 ∷ []) $ join ! $ done !
 
-    walks : length (now (z .0 .3 .1 .0)) < 2 ^ 64 → ent 𝓤 (walkOf 𝓤 H A ended stayed held .pre (At z)) (WpFn 𝓤 H C Λ function (ptr-vals (z .0 .3 .0) ++ (slice-vals (z .0 .3 .1 .0) ++ [])) (Post (At z)))
+    walks : length (now (z .0 .3 .1 .0)) < 2 ^ 64
+        → ent 𝓤 (walkOf 𝓤 H A ended stayed held .pre (At z)) (WpFn 𝓤 H C Λ function (ptr-vals (z .0 .3 .0) ++ (slice-vals (z .0 .3 .1 .0) ++ [])) (Post (At z)))
     walks fits =
-        qed W ((raw toks ⊛ ‵ (owns (typesAt (ended .signature .params) (z .0 .0)) (z .0 .3) (At z .0 .4))) ∷ raw (held (z .0 .0) (z .0 .3) .requires (z .1)) ∷ []) ∵
+        qed W ((raw toks ⊛ ‵ (owns (typesAt (ended .signature .params) (z .0 .0)) (z .0 .3) (At z .0 .4)))
+        ∷ raw (held (z .0 .0) (z .0 .3) .requires (z .1)) ∷ []) ∵
         split ! $ keep ! (0 ∷ []) $
         nothing ! $ feqI ! (List Val) (made ∷ []) (made ∷ []) refl $ fjoin ! $
         fpack ! (Valss []) (within (shape the-type) tt (made ∷ [])) tt $ nothing ! $ move ! (1 ∷ 0 ∷ []) $ fjoin ! $
@@ -86,10 +88,13 @@ module _ {M : Type 1} (𝓤 : URA M) (H : Heap 𝓤) (A : Atoms 𝓤) (W : Given
 
   meets : (𝓣 : Tables 𝓤 H) → Meets 𝓤 H A (ended .signature) (WpFn 𝓤 H (𝓣 .C) (𝓣 .Λ) function) (closing 𝓤 H A ended held)
   meets 𝓣 =
-      walk-meets 𝓤 H A ended stayed W
-      (goes-dropped 𝓤 H A W 2 (shrRefTo (0 ∷ []) tt (plain (λ _. the-row))) yes (λ κs x f. refl), (goes-dropped 𝓤 H A W 2 (shrSliceOf (1 ∷ []) tt (plain (λ _. u8))) yes (λ κs x f. refl), tt))
+      walk-meets 𝓤 H A ended stayed W (
+        goes-dropped 𝓤 H A W 2 (shrRefTo (0 ∷ []) tt (plain (λ _. the-row))) yes (λ κs x f. refl),
+        (goes-dropped 𝓤 H A W 2 (shrSliceOf (1 ∷ []) tt (plain (λ _. u8))) yes (λ κs x f. refl), tt),
+      )
       held (WpFn 𝓤 H (𝓣 .C) (𝓣 .Λ) function) (WpFn-mono 𝓤 H (W .laws) 𝓣 function)
-      (walked 𝓤 H A ended stayed held (WpFn 𝓤 H (𝓣 .C) (𝓣 .Λ) function) (λ κs. (ptr-vals, (slice-vals, tt))) (λ κs. (shr-tells (named 0) (κs .0) the-row, (shr-slice-tells (named 1) (κs .1 .0) u8, tt)))
+      (walked 𝓤 H A ended stayed held (WpFn 𝓤 H (𝓣 .C) (𝓣 .Λ) function) (λ κs. (ptr-vals, (slice-vals, tt)))
+      (λ κs. (shr-tells (named 0) (κs .0) the-row, (shr-slice-tells (named 1) (κs .1 .0) u8, tt)))
       (λ κs qs bounds a g are. walks (𝓣 .C) (𝓣 .Λ) ((κs, qs, bounds, a, (ptr-vals (a .0), (slice-vals (a .1 .0), tt))), g) (are .1 .0 .0 .1 .0)))
 
 pub with-spec : {M : Type 1} → stated.statement M

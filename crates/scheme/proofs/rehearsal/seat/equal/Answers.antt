@@ -6,7 +6,8 @@ use Rattle.scheme.proofs.Bytes.{same-lengths, compared-on, compared-all}
 use Rattle.scheme.proofs.rehearsal.seat.equal.Needs as need
 
 pub returns-then-given-ne-SIGNATURE-LENGTH : need.returns-then-given-ne-SIGNATURE-LENGTH
-returns-then-given-ne-SIGNATURE-LENGTH c = sym (same-lengths (c .args .given .now) (c .args .right .now) (λ e. c .if-given-ne-SIGNATURE-LENGTH .taken (e ∙ c .told-right)))
+returns-then-given-ne-SIGNATURE-LENGTH c =
+    sym (same-lengths (c .args .given .now) (c .args .right .now) (λ e. c .if-given-ne-SIGNATURE-LENGTH .taken (e ∙ c .told-right)))
 
 pub loop-i-again : need.loop-i-again
 loop-i-again c =
