@@ -12,6 +12,7 @@ use crate::anchors::last_round;
 use crate::anchors::last_voted;
 use crate::anchors::mark_from;
 use crate::listing::write_from;
+use crate::tables::PLACES;
 use crate::tables::enter;
 use book::library::Library;
 
@@ -31,8 +32,8 @@ pub fn read_order<B: Library>(book: &B, f: u32, web: &[u32], out: &mut [u32; 409
 {
     *out = [0; 4096];
     let members = 3 * f as usize + 1;
-    let mut names = [0; 6144];
-    let mut marks = [0; 6144];
+    let mut names = [0; PLACES];
+    let mut marks = [0; PLACES];
     enter(book, members, web, &mut names, &mut marks);
     let rounds = last_round(book, web) as usize / 2 + 1;
     match last_voted(book, f, members, &names, &marks, rounds) {

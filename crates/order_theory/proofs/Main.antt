@@ -16,7 +16,8 @@ use Rattle.model.specs.Promise.{wholeAll}
 use Rattle.model.specs.Seat.{fit, padded}
 use Rattle.model.proofs.Lists.{In, in-none, distinct-none}
 use Rattle.model.proofs.Webs.{SoundWeb}
-use Rattle.order_theory.specs.Tables.{placeOf, namesOf, marksOf, lastVotedAt, Marked, Links, Written, allLinked, allWritten, markedFrom, writtenBy, stepsOn, StepsWriteOrder}
+use Rattle.order_theory.specs.Tables.{placeOf, namesOf, marksOf, lastVotedAt, Marked, Links, Written, allLinked, allWritten}
+use Rattle.order_theory.specs.Tables.{markedFrom, writtenBy, stepsOn, StepsWriteOrder}
 use Rattle.order_theory.proofs.Sound.{sound-web, rounds-few, rows-fit}
 use Rattle.order_theory.proofs.Places.{place-before, Tabled, noughts, noughts-at, less-or-not, entered, entered-low, marks-length}
 use Rattle.order_theory.proofs.Votes.{Matches, last-same, leader-place}
@@ -34,10 +35,10 @@ nothing-written : (out : List ℕ) → out ≡ noughts 4096 → _≡_ {A = Writt
 nothing-written out e = written-is (wrote []) out 0 (e ∙ sym (pad-none 4096)) refl
 
 module _ {f : ℕ} {b : Book} {web : List ℕ} (sound : SoundWeb f b web) (few : f ≤ 4) (short : length web ≤ 4096) where
-  round-small : (x : ℕ) → In x web → ((b x .round + 1) * members f ≤ 6144) × (b x .round < 4096)
+  round-small : (x : ℕ) → In x web → ((b x .round + 1) * members f ≤ 6400) × (b x .round < 4096)
   round-small x h = let l = rounds-few sound x h in rows-fit f (b x .round) few (omega arith)
 
-  place-small : (x : ℕ) → In x web → placeOf (members f) b x < 6144
+  place-small : (x : ℕ) → In x web → placeOf (members f) b x < 6400
   place-small x h =
       let p = place-before sound x (b x .round + 1) h (omega arith) in
       let q = round-small x h .0 in
@@ -46,7 +47,7 @@ module _ {f : ℕ} {b : Book} {web : List ℕ} (sound : SoundWeb f b web) (few :
   -- from the marks and the number of anchors, the order is written
   written-from :
       (all names : List ℕ) (t : Marked) (heads nexts : List ℕ) → Found-all sound names all t → length all < 2049 → length heads ≡ 2050 →
-      ((m : ℕ) → getD heads m 0 ≡ 0) → length nexts ≡ 6144 →
+      ((m : ℕ) → getD heads m 0 ≡ 0) → length nexts ≡ 6400 →
       allWritten names (allLinked (t .marks) (length (t .marks)) (record { heads = heads; nexts = nexts })) (t .anchors) (wrote [])
       ≡ wrote (listed b [] all)
   written-from all names t heads nexts found l hs none ns =
@@ -76,13 +77,13 @@ module _ {f : ℕ} {b : Book} {web : List ℕ} (sound : SoundWeb f b web) (few :
       (λ z h k. let m = sunk .most z h in absurd (omega arith))
 
   abbrev names₀ : List ℕ
-  names₀ = namesOf (members f) b web (noughts 6144)
+  names₀ = namesOf (members f) b web (noughts 6400)
 
   abbrev marks₀ : List ℕ
-  marks₀ = marksOf (members f) b web (noughts 6144)
+  marks₀ = marksOf (members f) b web (noughts 6400)
 
   tabled₀ : Tabled (members f) b web names₀ marks₀
-  tabled₀ = entered sound 6144 place-small
+  tabled₀ = entered sound 6400 place-small
 
   -- by what is found as the last anchor
   by-last :
@@ -99,13 +100,14 @@ module _ {f : ℕ} {b : Book} {web : List ℕ} (sound : SoundWeb f b web) (few :
       let s = round-small x (l .0) .1 in
       let e : b x .round / 2 ≡ k = omega arith in
       let a = anchors-few sound names₀ k x in
-      let size = marks-length (members f) b web (noughts 6144) ∙ length-replicate {A = ℕ} 6144 0 in
+      let size = marks-length (members f) b web (noughts 6400) ∙ length-replicate {A = ℕ} 6400 0 in
       let found =
-      marked-from sound names₀ k x marks₀ tabled₀ (λ y hy. let p = place-small y hy in omega arith) (entered-low sound 6144 place-small) h in
-      ap (λ w. allWritten names₀ (allLinked (t .marks) (length (t .marks)) (record { heads = noughts 2050; nexts = noughts 6144 })) (t .anchors) w)
+      marked-from sound names₀ k x marks₀ tabled₀ (λ y hy. let p = place-small y hy in omega arith) (entered-low sound 6400 place-small) h in
+      ap (λ w. allWritten names₀ (allLinked (t .marks) (length (t .marks)) (record { heads = noughts 2050; nexts = noughts 6400 })) (t .anchors) w)
       (nothing-written (noughts 4096) refl)
-      ∙ (written-from (anchorsTo f b web k x) names₀ t (noughts 2050) (noughts 6144) found (omega arith) (length-replicate {A = ℕ} 2050 0) (noughts-at 2050)
-      (length-replicate {A = ℕ} 6144 0)
+      ∙ (written-from (anchorsTo f b web k x) names₀ t (noughts 2050) (noughts 6400) found (omega arith)
+      (length-replicate {A = ℕ} 2050 0) (noughts-at 2050)
+      (length-replicate {A = ℕ} 6400 0)
       ∙ ap (λ (j : ℕ). wrote (listed b [] (anchorsTo f b web j x))) (sym e))
 
   -- The steps write the order.
@@ -121,8 +123,8 @@ steps-write-order f b web whole once fits few short = order-written (sound-web f
 -- the same, from what a program holds: its tables, the number of even rounds, and the last anchor's
 pub written-by :
     (f : ℕ) (b : Book) (web : List ℕ) → T (wholeAll b web web) → T (distinct web) → T (fit f b web) → f ≤ 4 → length web ≤ 4096 →
-    (n : ℕ) (names marks : List ℕ) (rounds : ℕ) (o : Option ℕ) → n ≡ members f → names ≡ namesOf n b web (noughts 6144) →
-    marks ≡ marksOf n b web (noughts 6144) → rounds ≡ lastRound b web / 2 + 1 → o ≡ lastVotedAt f n b names marks rounds →
+    (n : ℕ) (names marks : List ℕ) (rounds : ℕ) (o : Option ℕ) → n ≡ members f → names ≡ namesOf n b web (noughts 6400) →
+    marks ≡ marksOf n b web (noughts 6400) → rounds ≡ lastRound b web / 2 + 1 → o ≡ lastVotedAt f n b names marks rounds →
     writtenBy n b names marks (noughts 4096) o ≡ wrote (order f b web)
 written-by f b web whole once fits few short n names marks rounds o en ea em er eo =
     let same : writtenBy n b names marks (noughts 4096) o ≡ stepsOn f b web = cc in

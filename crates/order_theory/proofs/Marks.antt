@@ -5,7 +5,7 @@ use mathlib.Core.Bool.{Bool, true, false, cond, _&&_, not}
 use mathlib.Core.List.{List, [], _∷_, _++_, append-assoc, append-nil}
 use mathlib.Core.Logic.{_⊎_, inl, inr, ⊎-elim}
 use Prim.Native.Nat.{ℕ, zero, suc, _+_, _-_, _*_, _/_, _%_, _≤_, _<_}
-use native.Mathlib.Nat.{add-mul, one-mul, zero-mul}
+use native.Mathlib.Nat.{suc-mul, zero-mul}
 use native.Mathlib.Omega.{arith}
 use lib.Dec.{T, eqb, ltb, eqb→eq, ltb→lt, lt→ltb, nltb→le, T-not, not-T}
 use lib.ListN.{length, getD, set, length-set, length-append}
@@ -15,13 +15,14 @@ use Rattle.model.specs.Thresholds.{members}
 use Rattle.model.specs.Blocks.{Book}
 use Rattle.model.specs.Reach.{reached}
 use Rattle.model.specs.Order.{Sought, Missing, Found, leaderBlock, anchorsTo}
-use Rattle.model.proofs.Tools.{decided, cond-cases, cond-then, cond-else, eq→eqb, same-or-not}
+use Rattle.model.proofs.Tools.{decided, cond-cases, cond-then, cond-else, eq→eqb, not-eqb, same-or-not}
 use Rattle.model.proofs.Lists.{In, Within, in-none, in-here, in-there, in-cons, in-or-not}
 use Rattle.model.proofs.Thresholds.{today, member-some}
 use Rattle.model.proofs.Validity.{valid-earlier}
 use Rattle.model.proofs.Webs.{SoundWeb}
 use Rattle.model.proofs.Reach.{reached-self, reached-all, reached-parents}
-use Rattle.order_theory.specs.Tables.{placeOf, rowOf, leaderPlace, raised, raisedAll, handedOn, rowHandedOn, Marked, leaderTested, twoRows, wentBack, markedFrom}
+use Rattle.order_theory.specs.Tables.{placeOf, leaderPlace, raised, raisedAll, handedOn, rowHandedOn}
+use Rattle.order_theory.specs.Tables.{Marked, leaderTested, oneRow, wentBack, markedFrom}
 use Rattle.order_theory.proofs.Places.{place-is, place-alone, place-before, place-from, Tabled, less-or-not, set-either}
 use Rattle.order_theory.proofs.Votes.{leader-there, leader-place}
 
@@ -115,7 +116,8 @@ module _ {f : ℕ} {b : Book} {web : List ℕ} (sound : SoundWeb f b web) (names
   -- if what got a higher mark was, before, reached from all anchors of that mark
   right-grows :
       (anchors marks after : List ℕ) →
-      ((a z m : ℕ) → m ≤ length anchors + 1 → In a anchors → In z web → ((w : ℕ) → In w web → m ≤ markOf marks w → In w (reached b a)) → m ≤ markOf after z → In z (reached b a)) →
+      ((a z m : ℕ) → m ≤ length anchors + 1 → In a anchors → In z web → ((w : ℕ) → In w web → m ≤ markOf marks w → In w (reached b a)) →
+      m ≤ markOf after z → In z (reached b a)) →
       Right marks anchors → Right after anchors
   right-grows [] marks after h r = tt
   right-grows (a ∷ rest) marks after h r = (
@@ -160,7 +162,8 @@ module _ {f : ℕ} {b : Book} {web : List ℕ} (sound : SoundWeb f b web) (names
           (λ d.
           let e = d .0 in
           let same = place-alone sound (d .1 .0) z (sound .closed x (d .1 .0) hx (d .1 .1)) hz (d .1 .2) in
-          reached-parents sound a x z (own-in anchors marks (sunk .own) a ha) (old x hx (omega arith)) (subst (λ w. In w (b x .parents)) same (d .1 .1)))
+          reached-parents sound a x z (own-in anchors marks (sunk .own) a ha) (old x hx (omega arith))
+          (subst (λ w. In w (b x .parents)) same (d .1 .1)))
           (raise .only (place z)))
           (sunk .right);
       own = own-grows anchors marks after (raise .grows) (sunk .own);
@@ -369,16 +372,6 @@ module _ {f : ℕ} {b : Book} {web : List ℕ} (sound : SoundWeb f b web) (names
             ∙ back .goes;
       })
 
-  odd-row : (k : ℕ) → (2 * k + 1) * members f ≡ rowOf (members f) k + members f
-  odd-row k = let p = add-mul (2 * k) 1 (members f) in let q = one-mul (members f) in omega arith
-
-  next-row : (k : ℕ) → rowOf (members f) (suc k) ≡ rowOf (members f) k + members f + members f
-  next-row k =
-      let e : 2 * suc k ≡ 2 * k + 2 = omega arith in
-      let d = ap (λ (r : ℕ). r * members f) e in
-      let p = add-mul (2 * k) 2 (members f) in
-      omega arith
-
   row-back :
       (row p k : ℕ) (all : List ℕ) (t : Marked) → row + members f ≡ p → Back p k all t →
       Back row k all (record { marks = rowHandedOn (members f) b names row (members f) (t .marks); anchors = t .anchors })
@@ -392,44 +385,90 @@ module _ {f : ℕ} {b : Book} {web : List ℕ} (sound : SoundWeb f b web) (names
     goes = back .goes;
   }
 
-  two-rows :
-      (k : ℕ) (all : List ℕ) (t : Marked) → Back (rowOf (members f) (suc k)) (suc k) all t →
-      Back (rowOf (members f) k) k all (twoRows (members f) b names k t)
-  two-rows k all t back =
-      let n = members f in
-      let row = rowOf n k in
-      let t₁ : Marked = record { marks = rowHandedOn n b names (row + n) n (t .marks); anchors = t .anchors } in
-      let one = row-back (row + n) (rowOf n (suc k)) (suc k) all t (sym (next-row k)) back in
-      let two = leader-tested k all t₁ (subst (λ (q : ℕ). Back q (suc k) all t₁) (sym (odd-row k)) one) in
-      row-back row ((2 * k + 1) * n) k all (leaderTested (leaderPlace n k) t₁) (sym (odd-row k)) two
+  row-end : (r : ℕ) → r * members f + members f ≡ suc r * members f
+  row-end r = let e = suc-mul r (members f) in omega arith
+
+  -- the row of an even round, and of an odd one
+  abbrev tested : ℕ → Marked → Marked
+  tested r t = leaderTested (r * members f + r / 2 % members f) t
+
+  even-row : (k : ℕ) (t : Marked) → oneRow (members f) b names (2 * k) t ≡ record {
+    marks = rowHandedOn (members f) b names (2 * k * members f) (members f) (tested (2 * k) t .marks);
+    anchors = tested (2 * k) t .anchors;
+  }
+  even-row k t =
+      let e : 2 * k % 2 ≡ 0 = omega arith in
+      ap {B = Marked} (λ u. record { marks = rowHandedOn (members f) b names (2 * k * members f) (members f) (u .marks); anchors = u .anchors })
+      (cond-then (eqb (2 * k % 2) 0) (tested (2 * k) t) t (eq→eqb (2 * k % 2) 0 e))
+
+  odd-row : (k : ℕ) (t : Marked) → oneRow (members f) b names (2 * k + 1) t ≡ record {
+    marks = rowHandedOn (members f) b names ((2 * k + 1) * members f) (members f) (t .marks);
+    anchors = t .anchors;
+  }
+  odd-row k t =
+      let e : (2 * k + 1) % 2 ≡ 1 = omega arith in
+      ap {B = Marked} (λ u. record { marks = rowHandedOn (members f) b names ((2 * k + 1) * members f) (members f) (u .marks); anchors = u .anchors })
+      (cond-else (eqb ((2 * k + 1) % 2) 0) (tested (2 * k + 1) t) t (not-eqb ((2 * k + 1) % 2) 0 (λ z. omega arith)))
+
+  leader-half : (k : ℕ) → leaderPlace (members f) k ≡ 2 * k * members f + 2 * k / 2 % members f
+  leader-half k = let e : 2 * k / 2 ≡ k = omega arith in ap (λ (j : ℕ). 2 * k * members f + j % members f) (sym e)
+
+  even-back :
+      (k : ℕ) (all : List ℕ) (t : Marked) → Back (suc (2 * k) * members f) (suc k) all t →
+      Back (2 * k * members f) k all (oneRow (members f) b names (2 * k) t)
+  even-back k all t back =
+      let e : suc (2 * k) ≡ 2 * k + 1 = omega arith in
+      let one = leader-tested k all t (subst (λ (r : ℕ). Back (r * members f) (suc k) all t) e back) in
+      let two = subst (λ (s : ℕ). Back ((2 * k + 1) * members f) k all (leaderTested s t)) (leader-half k) one in
+      subst (Back (2 * k * members f) k all) (sym (even-row k t))
+      (row-back (2 * k * members f) ((2 * k + 1) * members f) k all (tested (2 * k) t)
+      (row-end (2 * k) ∙ ap (λ (r : ℕ). r * members f) e) two)
+
+  odd-back :
+      (k : ℕ) (all : List ℕ) (t : Marked) → Back (suc (2 * k + 1) * members f) (suc k) all t →
+      Back ((2 * k + 1) * members f) (suc k) all (oneRow (members f) b names (2 * k + 1) t)
+  odd-back k all t back =
+      subst (Back ((2 * k + 1) * members f) (suc k) all) (sym (odd-row k t))
+      (row-back ((2 * k + 1) * members f) (suc (2 * k + 1) * members f) (suc k) all t (row-end (2 * k + 1)) back)
 
   -- the end: all anchors, and all blocks have handed on their marks
   pub record Found-all (all : List ℕ) (t : Marked) : Type 0 where
     pub sunk : Sunk 0 all (t .marks)
     pub count : t .anchors ≡ length all
 
-  went-back : (k : ℕ) (all : List ℕ) (t : Marked) → Back (rowOf (members f) k) k all t → Found-all all (wentBack (members f) b names k t)
+  -- with 2 k rows left
+  went-back : (k : ℕ) (all : List ℕ) (t : Marked) → Back (2 * k * members f) k all t → Found-all all (wentBack (members f) b names (2 * k) t)
   unfolding wentBack
   went-back zero all t back =
-      let e : rowOf (members f) 0 ≡ 0 = zero-mul (members f) in
+      let e : 2 * 0 * members f ≡ 0 = zero-mul (members f) in
       let d : back .first ∷ back .rest ≡ all = ap (λ u. u ++ back .rest) (sym (anchors-zero (back .first))) ∙ back .goes in
       record {
         sunk = subst (λ u. Sunk 0 u (t .marks)) d (subst (λ (q : ℕ). Sunk q (back .first ∷ back .rest) (t .marks)) e (back .sunk));
         count = back .count ∙ ap length d;
       }
-  went-back (suc k) all t back = went-back k all (twoRows (members f) b names k t) (two-rows k all t back)
+  went-back (suc k) all t back =
+      let e : 2 * suc k ≡ suc (2 * k + 1) = omega arith in
+      let d : 2 * k + 1 ≡ suc (2 * k) = omega arith in
+      let odd = oneRow (members f) b names (2 * k + 1) t in
+      let one = odd-back k all t (subst (λ (r : ℕ). Back (r * members f) (suc k) all t) e back) in
+      let two = even-back k all odd (subst (λ (r : ℕ). Back (r * members f) (suc k) all odd) d one) in
+      subst (λ (r : ℕ). Found-all all (wentBack (members f) b names r t)) (sym e)
+      (subst (λ (r : ℕ). Found-all all (wentBack (members f) b names r odd)) (sym d) (went-back k all (oneRow (members f) b names (2 * k) odd) two))
 
-  -- From the leader's block of round 2 k, the last anchor, one comes to all anchors.
+  -- From round 2 k, whose leader's block is the last anchor, one comes to all anchors.
   pub marked-from :
       (k x : ℕ) (marks : List ℕ) → Tabled (members f) b web names marks → ((y : ℕ) → In y web → place y < length marks) →
       ((s : ℕ) → getD marks s 0 ≤ 1) → leaderBlock f b (2 * k) web ≡ Found x →
       Found-all (anchorsTo f b web k x) (markedFrom (members f) b k names marks)
+  unfolding wentBack
   marked-from k x marks tabled room low e =
       let n = members f in
+      let all = anchorsTo f b web k x in
       let l = leader-place sound tabled k x e in
       let r = l .2 in
-      let one : (y : ℕ) → In y web → markOf marks y ≡ 1 = λ y h. let a = tabled .there y h in let c = low (place y) in omega arith in
-      let p = (2 * k + 1) * n in
+      let t : Marked = record { marks = marks; anchors = 0 } in
+      let p = suc (2 * k) * n in
+      let one : markOf marks x ≡ 1 = let a = tabled .there x (l .0) in let c = low (place x) in omega arith in
       let none : Sunk p [] marks = record {
         tabled = tabled;
         room = room;
@@ -438,14 +477,23 @@ module _ {f : ℕ} {b : Book} {web : List ℕ} (sound : SoundWeb f b web) (names
         own = tt;
         handed = λ y z hy _ hz. let a = low (place y) in let c = tabled .there z (sound .closed y z hy hz) in omega arith;
       } in
-      let first = anchor-more p x (l .0) (place-before sound x (2 * k + 1) (l .0) (omega arith)) [] marks (one x (l .0)) none in
-      let t : Marked = record { marks = set marks (leaderPlace n k) 2; anchors = 1 } in
-      let start : Back p k (anchorsTo f b web k x) t = record {
+      let first = anchor-more p x (l .0) (place-before sound x (suc (2 * k)) (l .0) (omega arith)) [] marks one none in
+      let s = 2 * k * n + 2 * k / 2 % n in
+      let at : place x ≡ s = l .1 ∙ leader-half k in
+      let u : Marked = record { marks = set marks s 2; anchors = 1 } in
+      let hit : tested (2 * k) t ≡ u =
+      cond-then (eqb (getD marks s 0) 1) u t (eq→eqb (getD marks s 0) 1 (ap (λ (q : ℕ). getD marks q 0) (sym at) ∙ one)) in
+      let start : Back p k all u = record {
         first = x;
         rest = [];
-        sunk = subst (λ (q : ℕ). Sunk p (x ∷ []) (set marks q 2)) (l .1) first;
+        sunk = subst (λ (q : ℕ). Sunk p (x ∷ []) (set marks q 2)) at first;
         count = refl;
-        goes = append-nil (anchorsTo f b web k x);
+        goes = append-nil all;
       } in
-      went-back k (anchorsTo f b web k x) (record { marks = rowHandedOn n b names (rowOf n k) n (t .marks); anchors = 1 })
-      (row-back (rowOf n k) p k (anchorsTo f b web k x) t (sym (odd-row k)) start)
+      let row = row-back (2 * k * n) p k all u (row-end (2 * k)) start in
+      let same =
+      even-row k t
+      ∙ ap {B = Marked} (λ v. record { marks = rowHandedOn n b names (2 * k * n) n (v .marks); anchors = v .anchors }) hit in
+      let d : 2 * k + 1 ≡ suc (2 * k) = omega arith in
+      subst (λ (j : ℕ). Found-all all (wentBack n b names j t)) (sym d)
+      (went-back k all (oneRow n b names (2 * k) t) (subst (Back (2 * k * n) k all) (sym same) row))

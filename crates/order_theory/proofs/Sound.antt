@@ -17,7 +17,8 @@ use Rattle.model.specs.Member.{rival}
 use Rattle.model.specs.Promise.{wholeAll}
 use Rattle.model.specs.Seat.{fit}
 use Rattle.model.proofs.Tools.{and-left, and-right, and-both, or-left, or-right, eq→eqb, not-eqb, same-or-not, cond-cases}
-use Rattle.model.proofs.Lists.{In, Within, in-none, in-here, in-there, in-cons, in-all, in-union-left, in-union-right, different≤length, different-within}
+use Rattle.model.proofs.Lists.{In, Within, in-none, in-here, in-there, in-cons, in-all}
+use Rattle.model.proofs.Lists.{in-union-left, in-union-right, different≤length, different-within}
 use Rattle.model.proofs.Validity.{valid-earlier, valid-author, authors-in, authors-within}
 use Rattle.model.proofs.Webs.{SoundWeb}
 use Rattle.model.proofs.Reach.{reached-quorum, reached-within, reached-all}
@@ -182,7 +183,7 @@ module _ {f : ℕ} {b : Book} {web : List ℕ} (sound : SoundWeb f b web) where
       omega arith
 
 -- so many rows fit
-pub rows-fit : (f r : ℕ) → f ≤ 4 → r * quorum f < 4096 → ((r + 1) * members f ≤ 6144) × (r < 4096)
+pub rows-fit : (f r : ℕ) → f ≤ 4 → r * quorum f < 4096 → ((r + 1) * members f ≤ 6400) × (r < 4096)
 unfolding quorum members
 rows-fit zero r h l = (omega arith, omega arith)
 rows-fit (suc zero) r h l = (omega arith, omega arith)

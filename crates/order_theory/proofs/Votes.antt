@@ -14,7 +14,8 @@ use Rattle.model.specs.Names.{isIn, distinct}
 use Rattle.model.specs.Thresholds.{members, neededVotes}
 use Rattle.model.specs.Blocks.{Book}
 use Rattle.model.specs.Order.{Sought, Missing, Found, leader, leaderBlock, votesFor, hasVotes, lastVoted}
-use Rattle.model.proofs.Tools.{and-left, and-right, and-both, is-true, is-false, same-test, cond-cases, cond-from, cond-then, cond-else, cond-under, eq→eqb, same-or-not}
+use Rattle.model.proofs.Tools.{and-left, and-right, and-both, is-true, is-false, same-test, eq→eqb, same-or-not}
+use Rattle.model.proofs.Tools.{cond-cases, cond-from, cond-under}
 use Rattle.model.proofs.Lists.{In, Within, in-none, in-here, in-there, in-cons}
 use Rattle.model.proofs.Lists.{distinct-none, distinct-cons, distinct-head, distinct-tail, distinct-different, different-within}
 use Rattle.model.proofs.Thresholds.{today, member-some}
@@ -66,7 +67,8 @@ in-web-voters b x (z ∷ ys) y t =
     let later : In y (webVoters b x ys) → In y (z ∷ ys) × Vote b x y = λ h. let s = in-web-voters b x ys y h in (in-there y z ys (s .0), s .1) in
     ⊎-elim
     (λ h. ⊎-elim
-    (λ e. subst (λ w. In w (z ∷ ys) × Vote b x w) (sym e) (in-here z ys, (eqb→eq (b z .round) (b x .round + 1) (and-left p q (h .0)), and-right p q (h .0))))
+    (λ e. subst (λ w. In w (z ∷ ys) × Vote b x w) (sym e)
+    (in-here z ys, (eqb→eq (b z .round) (b x .round + 1) (and-left p q (h .0)), and-right p q (h .0))))
     later (in-cons y z (webVoters b x ys) (h .1)))
     (λ h. later (h .1))
     (cond-from (In y) (votes b x z) (z ∷ webVoters b x ys) (webVoters b x ys) t)
@@ -108,7 +110,8 @@ module _ {f : ℕ} {b : Book} {web : List ℕ} (sound : SoundWeb f b web) {names
     -- what votes at a place of the next row
     vote-at :
         (k : ℕ) → k < members f → T (votesAt b x names marks (next-row + k)) →
-        In (getD names (next-row + k) 0) web × Vote b x (getD names (next-row + k) 0) × (placeOf (members f) b (getD names (next-row + k) 0) ≡ next-row + k)
+        In (getD names (next-row + k) 0) web × Vote b x (getD names (next-row + k) 0)
+        × (placeOf (members f) b (getD names (next-row + k) 0) ≡ next-row + k)
     vote-at k l t =
         let s = next-row + k in
         let p = ltb 0 (getD marks s 0) in
@@ -152,7 +155,8 @@ module _ {f : ℕ} {b : Book} {web : List ℕ} (sound : SoundWeb f b web) {names
         λ e. let d = ap (λ (r : ℕ). r * members f) (v .0) in omega arith in
         let name : b y .author ≡ k → z ≡ y = λ e. ap (λ (q : ℕ). getD names q 0) (sym (place e)) ∙ tabled .named y h in
         cond-cases (In y) (votesAt b x names marks s) (z ∷ rest) rest
-        (λ _. ⊎-elim (λ e. subst (λ w. In y (w ∷ rest)) (sym (name e)) (in-here y rest)) (λ n. in-there y z rest (earlier n)) (same-or-not (b y .author) k))
+        (λ _. ⊎-elim (λ e. subst (λ w. In y (w ∷ rest)) (sym (name e)) (in-here y rest)) (λ n. in-there y z rest (earlier n))
+        (same-or-not (b y .author) k))
         (λ n. ⊎-elim
         (λ e. absurd (T-not (votesAt b x names marks s) n
         (and-both (ltb 0 (getD marks s 0)) (isIn x (b z .parents))
@@ -208,7 +212,9 @@ module _ {f : ℕ} {b : Book} {web : List ℕ} (sound : SoundWeb f b web) {names
       (r .0, r .1, r .2, r .3, leader-block-found sound (2 * k) (r .0) (r .1) (s .0) (s .1 ∙ sym (leader-is k)), s .0)
 
   -- the leader's block stands at the leader's place
-  pub leader-place : (k y : ℕ) → leaderBlock f b (2 * k) web ≡ Found y → In y web × (placeOf (members f) b y ≡ leaderPlace (members f) k) × (b y .round ≡ 2 * k)
+  pub leader-place :
+      (k y : ℕ) → leaderBlock f b (2 * k) web ≡ Found y →
+      In y web × (placeOf (members f) b y ≡ leaderPlace (members f) k) × (b y .round ≡ 2 * k)
   leader-place k y e =
       let l = leader-block-is f b (2 * k) web y e in
       let p = ap (λ (r : ℕ). r * members f) (l .1) in
@@ -225,7 +231,9 @@ module _ {f : ℕ} {b : Book} {web : List ℕ} (sound : SoundWeb f b web) {names
 
   enough : (v : ℕ) → ltb f v ≡ leb (neededVotes f) v
   unfolding neededVotes
-  enough v = same-test (ltb f v) (leb (f + 1) v) (λ t. let h = ltb→lt f v t in le→leb (f + 1) v (omega arith)) (λ t. let h = leb→le (f + 1) v t in lt→ltb f v (omega arith))
+  enough v =
+      same-test (ltb f v) (leb (f + 1) v) (λ t. let h = ltb→lt f v t in le→leb (f + 1) v (omega arith))
+      (λ t. let h = leb→le (f + 1) v t in lt→ltb f v (omega arith))
 
   voted-same : (k : ℕ) → votedAt f (members f) b names marks k ≡ hasVotes f b web (leaderBlock f b (2 * k) web)
   voted-same k = ⊎-elim there none (less-or-not 0 (getD marks (leaderPlace (members f) k) 0))
@@ -250,7 +258,8 @@ module _ {f : ℕ} {b : Book} {web : List ℕ} (sound : SoundWeb f b web) {names
 
       none : getD marks s 0 ≤ 0 → Wanted
       none h =
-          ap (λ c. c && ltb f (count (getD names s 0))) (is-false (ltb 0 (getD marks s 0)) (not-T (ltb 0 (getD marks s 0)) (λ t. let l = ltb→lt 0 (getD marks s 0) t in omega arith)))
+          ap (λ c. c && ltb f (count (getD names s 0)))
+          (is-false (ltb 0 (getD marks s 0)) (not-T (ltb 0 (getD marks s 0)) (λ t. let l = ltb→lt 0 (getD marks s 0) t in omega arith)))
           ∙ missing (leaderBlock f b (2 * k) web) refl
         where
           missing : (m : Sought) → leaderBlock f b (2 * k) web ≡ m → false ≡ hasVotes f b web m

@@ -19,7 +19,8 @@ returns-in-None g c =
     let b = g .B·Library .what (c .args .book .now) in
     let web = c .args .web .now in
     let r =
-    written-by f b web (c .pre .whole) (c .pre .once) (c .pre .fits) (c .pre .few) (c .pre .room) (3 * f + 1) (c .enter .last .names) (c .enter .last .marks)
+    written-by f b web (c .pre .whole) (c .pre .once) (c .pre .fits) (c .pre .few) (c .pre .room) (3 * f + 1)
+    (c .enter .last .names) (c .enter .last .marks)
     (c .last-round .result / 2 + 1) None (members-is f) (c .enter .ensures .named) (c .enter .ensures .marked)
     (ap (λ (k : ℕ). k / 2 + 1) (c .last-round .ensures)) (c .in-None .ensures tt .last) in
     record { count = ap (λ w. w .count) r; listed = ap (λ w. w .out) r }
