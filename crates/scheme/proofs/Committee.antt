@@ -3,6 +3,7 @@
 
 use mathlib.Core.Path.{_≡_, refl, sym, ap, _∙_}
 use mathlib.Core.List.{List, [], _∷_, _++_, map, append-assoc, append-nil}
+use mathlib.Core.Logic.{inl, inr}
 use Prim.Native.Nat.{ℕ, zero, suc, _+_, _-_, _<_}
 use native.Mathlib.Omega.{arith}
 use lib.ListN.{length}
@@ -11,13 +12,21 @@ use Rattle.std.specs.declared.option.Option.the-variants.{Some, None}
 use Rattle.std.specs.declared.result.Result.{Result}
 use Rattle.std.specs.declared.result.Result.the-variants.{Ok, Err}
 use Rattle.scheme.specs.declared.keys.KeysError.{KeysError}
-use Rattle.scheme.specs.declared.keys.KeysError.the-variants.{NotASecret, Missing, TooMany}
-use Rattle.scheme.specs.Keys.{secretOf, firstLine, afterLine, onLine, parsed}
+use Rattle.scheme.specs.declared.keys.KeysError.the-variants.{NotASecret, Missing, TooMany, OutOfMemory}
+use Rattle.scheme.specs.Keys.{secretOf, firstLine, afterLine, onLine, parsed, Fails}
 
 -- Secrets before those that lines give, if they give any.
 abbrev pub added : List (List ℕ) → Result (List (List ℕ)) KeysError → Result (List (List ℕ)) KeysError
 added secrets (Ok more) = Ok (secrets ++ more)
 added secrets (Err e) = Err e
+
+pub added-none : (others : Result (List (List ℕ)) KeysError) → others ≡ added [] others
+added-none (Ok more) = refl
+added-none (Err e) = refl
+
+-- A text that is not empty has a byte.
+pub some-byte : (r : List ℕ) → (length r ≡ 0 → ⊥) → 0 < length r
+some-byte r h = omega arith
 
 -- A text with a line to read.
 pub parsed-line : (k n : ℕ) (r : List ℕ) → 0 < length r → parsed k (suc n) r ≡ onLine k (secretOf (firstLine r)) (parsed (k + 1) n (afterLine r))
@@ -78,3 +87,15 @@ module _ (n i : ℕ) (text r : List ℕ) (done : List (List ℕ)) (so-far : pars
   all-read e ends =
       let none : n - i ≡ 0 = omega arith in
       so-far ∙ ap (λ k. added done (parsed (i + 1) k r)) none ∙ ap (added done) (parsed-all (i + 1) r ends) ∙ ap Ok (append-nil done)
+
+-- A text that gives secrets can't be read for want of memory alone.
+pub read-fails :
+    (e : KeysError) (given : Result (List (List ℕ)) KeysError) (secrets : List (List ℕ)) → given ≡ Ok secrets → ((e ≡ OutOfMemory → ⊥) → given ≡ Err e) →
+    Fails e given
+read-fails OutOfMemory given secrets right h = inr (refl, secrets, right)
+read-fails (NotASecret k) given secrets right h =
+    let wrong = h (λ q. let z : _≡_ {A = ℕ} 0 1 = cc in omega arith) in let z : _≡_ {A = ℕ} 0 1 = cc in absurd (omega arith)
+read-fails (Missing k) given secrets right h =
+    let wrong = h (λ q. let z : _≡_ {A = ℕ} 0 1 = cc in omega arith) in let z : _≡_ {A = ℕ} 0 1 = cc in absurd (omega arith)
+read-fails (TooMany k) given secrets right h =
+    let wrong = h (λ q. let z : _≡_ {A = ℕ} 0 1 = cc in omega arith) in let z : _≡_ {A = ℕ} 0 1 = cc in absurd (omega arith)

@@ -1,6 +1,6 @@
 -- What an ideal signature scheme promises: checking accepts what signing made, and what is accepted stands in the record of who signed what.
 -- The first is a clause of the trait, proved of every scheme. The second no contract can give, since a signature can be guessed: `Unforged` states it
--- of the signatures met in a run, and a theorem about runs takes it as a hypothesis. It is no axiom, and `Ideal-can-be-met` says that it can hold.
+-- of the signatures met in a run, and a theorem about runs takes it as a hypothesis. It is no axiom.
 
 use mathlib.Core.Path.{_≡_}
 use mathlib.Core.List.{List, [], _∷_, _++_}
@@ -18,7 +18,7 @@ pub record Signed : Type 0 where
 abbrev pub Right : Type 0
 Right = ℕ → List ℕ → List ℕ → Bool
 
--- The record of who signed what: each member's messages so far, the newest first. Of a good member it is its program's `said`.
+-- The record of who signed what: each member's messages so far, the newest first. Of a good member, whose program has one seat, it is that seat's `said`.
 abbrev pub Record : Type 0
 Record = ℕ → List (List ℕ)
 
@@ -51,7 +51,7 @@ Unforged-joins =
     (right : Right) (good : ℕ → Bool) (said : Record) (some others : List Signed)
     → Unforged right good said some → Unforged right good said others → Unforged right good said (some ++ others)
 
--- A scheme that accepts just what stands in the record keeps the promise, whatever is met.
+-- Where just what stands in the record is accepted, the promise is kept, whatever is met. (No real scheme is like that: this one looks at no signature.)
 abbrev pub Ideal-can-be-met : Type 0
 Ideal-can-be-met =
     (good : ℕ → Bool) (said : Record) (met : List Signed) → Unforged (λ m message _. isIn message (said m)) good said met

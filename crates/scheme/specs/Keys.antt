@@ -4,6 +4,7 @@
 use mathlib.Core.Path.{_≡_}
 use mathlib.Core.List.{List, [], _∷_, _++_, map}
 use mathlib.Core.Bool.{Bool, cond, _&&_}
+use mathlib.Core.Logic.{_⊎_}
 use Prim.Native.Nat.{ℕ, zero, suc, _+_, _-_, _*_, _/_, _%_, _<_}
 use lib.Dec.{leb, eqb, ltb}
 use lib.ListN.{length}
@@ -63,6 +64,10 @@ parsed k zero [] = Ok []
 parsed k zero (b ∷ bs) = Err (TooMany k)
 parsed k (suc n) [] = Err (Missing k)
 parsed k (suc n) (b ∷ bs) = onLine k (secretOf (firstLine (b ∷ bs))) (parsed (k + 1) n (afterLine (b ∷ bs)))
+
+-- An error is the text's own, or memory is wanting, and then the text has none.
+abbrev pub Fails : KeysError → Result (List (List ℕ)) KeysError → Type 0
+Fails e given = (given ≡ Err e) ⊎ ((e ≡ OutOfMemory) × (secrets : List (List ℕ)) × (given ≡ Ok secrets))
 
 -- What an error prints.
 abbrev pub told : KeysError → List ℕ

@@ -3,12 +3,14 @@
 //! Nothing here prints a secret: `Secret` and `Keys` have neither `Debug` nor `Display`.
 
 ghost use mathlib.Core.Path.{_≡_};
+ghost use mathlib.Core.List.{List};
+ghost use Prim.Native.Nat.{ℕ};
 ghost use Rattle.std.specs.Options.{mapped};
 ghost use Rattle.std.specs.Results.{Cases};
 ghost use Rattle.std.specs.declared.option.Option.the-variants.{Some};
 ghost use Rattle.std.specs.declared.result.Result.the-variants.{Ok, Err};
 ghost use Rattle.scheme.specs.declared.keys.KeysError.the-variants.{OutOfMemory};
-ghost use Rattle.scheme.specs.Keys.{keysOf, digitOf, secretOf, firstLine, afterLine, parsed, told};
+ghost use Rattle.scheme.specs.Keys.{keysOf, digitOf, secretOf, firstLine, afterLine, parsed, Fails, told};
 ghost use Rattle.scheme.specs.Written.{Reads-back, Reads-back-unended, Only-written};
 use std::alloc::Global;
 use std::alloc::Refused;
@@ -114,9 +116,34 @@ fn split_line(text: &[u8]) -> (&[u8], &[u8])
     (text, &text[end..])
 }
 
+/// Whether the text has a right line for each of so many members and nothing more; else the first error. It needs no memory.
+fn check_lines(members: u32, text: &[u8]) -> Result<(), KeysError>
+    ensures { λ r. ⌜ Cases r
+        (λ _. (secrets : List (List ℕ)) × (parsed 1 members (now (text .entry)) ≡ Ok secrets))
+        (λ e. parsed 1 members (now (text .entry)) ≡ Err e) ⌝ }
+{
+    let members = members as usize;
+    let mut rest = text;
+    for i in 0..members {
+        let line = i + 1;
+        if rest.is_empty() {
+            return Err(KeysError::Missing { line });
+        }
+        let (first, after) = split_line(rest);
+        let Some(_secret) = read_secret(first) else {
+            return Err(KeysError::NotASecret { line });
+        };
+        rest = after;
+    }
+    if !rest.is_empty() {
+        return Err(KeysError::TooMany { line: members + 1 });
+    }
+    Ok(())
+}
+
 impl Keys {
-    /// Reads the secrets of a committee of so many members from the bytes of the file KEYS.
-    pub fn parse(heap: Global, members: u32, text: &[u8]) -> Result<Keys, KeysError>
+    /// The secrets of a text whose lines are right; it fails for want of memory alone.
+    fn read(heap: Global, members: u32, text: &[u8]) -> Result<Keys, KeysError>
         ensures { λ r. ⌜ Cases r
             (λ keys. parsed 1 members (now (text .entry)) ≡ Ok (keysOf keys))
             (λ e. (e ≡ OutOfMemory → ⊥) → parsed 1 members (now (text .entry)) ≡ Err e) ⌝ }
@@ -125,21 +152,32 @@ impl Keys {
         let mut secrets = Vec::new(heap);
         let mut rest = text;
         for i in 0..members {
-            let line = i + 1;
             if rest.is_empty() {
-                return Err(KeysError::Missing { line });
+                return Err(KeysError::Missing { line: i + 1 });
             }
             let (first, after) = split_line(rest);
             let Some(secret) = read_secret(first) else {
-                return Err(KeysError::NotASecret { line });
+                return Err(KeysError::NotASecret { line: i + 1 });
             };
             secrets.push(secret)?;
             rest = after;
         }
         if !rest.is_empty() {
-            return Err(KeysError::TooMany { line: members + 1 });
+            let line = members + 1;
+            return Err(KeysError::TooMany { line });
         }
         Ok(Keys { secrets })
+    }
+
+    /// Reads the secrets of a committee of so many members from the bytes of the file KEYS. A wrong file gets its error, whatever memory there
+    /// is; want of memory is answered for right ones only.
+    pub fn parse(heap: Global, members: u32, text: &[u8]) -> Result<Keys, KeysError>
+        ensures { λ r. ⌜ Cases r
+            (λ keys. parsed 1 members (now (text .entry)) ≡ Ok (keysOf keys))
+            (λ e. Fails e (parsed 1 members (now (text .entry)))) ⌝ }
+    {
+        check_lines(members, text)?;
+        Keys::read(heap, members, text)
     }
 }
 

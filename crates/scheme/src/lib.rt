@@ -20,7 +20,6 @@ pub use signing::SignErrorDebug;
 pub use signing::SignErrorDisplay;
 pub use signing::SignErrorPartialEq;
 pub use signing::ideal_laws;
-pub use signing::sign_and_check;
 
 #[cfg(test)]
 mod tests {

@@ -2,7 +2,7 @@
 //!
 //! Rattle lets a ghost field hold data only in a struct that owns memory, so `Record` owns what is nothing, and its two functions are
 //! proved by hand: a proof may give such data any value. So the record binds nobody who knows that a seat is a `Rehearsal`; it binds
-//! code that is generic over `Scheme`, which has no other way to change `said` than to sign.
+//! code that is generic over `Scheme`, which has no other way to change a seat's `said` than to sign; and a program has one seat.
 
 ghost use mathlib.Core.Path.{_≡_};
 ghost use mathlib.Core.List.{List, [], _∷_};

@@ -75,19 +75,6 @@ pub trait Scheme<const LENGTH: usize> {
         ensures secret { λ _. ⌜ secret (now (self .exit)) ≡ secret (now (self .entry)) ⌝ };
 }
 
-/// Signs a message, and checks the signature as a member's: as the seat's own it is right.
-pub fn sign_and_check<const LENGTH: usize, S: Scheme<LENGTH>>(
-    seat: &mut S,
-    member: u32,
-    message: &[u8],
-) -> Result<([u8; LENGTH], bool), SignError>
-    ensures { λ r. ⌜ made r (λ both. member ≡ S·Scheme .me (now (seat .entry)) → both .1 ≡ true) ⌝ }
-{
-    let signature = seat.sign(message)?;
-    let accepted = seat.check(member, message, &signature);
-    Ok((signature, accepted))
-}
-
 /// The laws of what an ideal scheme promises, as theorems: see specs/Ideal.antt.
 pub fn ideal_laws() -> u8
     ensures stays { λ _. ⌜ Unforged-stays ⌝ }

@@ -1,5 +1,5 @@
-// Leave to sign. Only the seat's `sign` gives it, and each leave is spent once: so what signs asks for one, by value, and no signature of the
-// member's is made but for a block that its seat answered for.
+// Leave to sign. Only the seat's `sign` gives it, and each leave is spent once. The layer that signs blocks is to ask for one, by value, so that no
+// signature of a block is made but for one that the seat answered for.
 ghost use mathlib.Core.Path.{_≡_};
 
 /// Leave to sign one block in one member's name. It can't be copied or dropped, and is made nowhere but in the module above.

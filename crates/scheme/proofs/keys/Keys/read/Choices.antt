@@ -4,7 +4,7 @@ use Prim.Native.Nat.{_+_, _-_}
 use Rattle.std.specs.Of.Vec.{vec-items}
 use Rattle.scheme.specs.Keys.{parsed}
 use Rattle.scheme.proofs.Committee.{added}
-use Rattle.scheme.proofs.keys.Keys.parse.Given as given
+use Rattle.scheme.proofs.keys.Keys.read.Given as given
 
 -- The secrets read so far stand before those of the lines that are left.
 abbrev pub Inv-loop-i : given.InvT-loop-i
