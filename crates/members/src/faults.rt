@@ -29,6 +29,13 @@ impl Faults {
         Ok(Faults { f })
     }
 
+    /// At most so many members are bad.
+    pub fn most_bad(self) -> u32
+        ensures { λ r. ⌜ r ≡ self .f ⌝ }
+    {
+        self.f
+    }
+
     /// How many members there are: they are numbered from 0.
     pub fn members(self) -> u32
         ensures { λ r. ⌜ r ≡ members-of (self .f) ⌝ }

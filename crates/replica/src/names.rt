@@ -9,6 +9,7 @@ ghost use Rattle.model.specs.Names.{isIn};
 
 /// At most 4,096 names, the latest first. The array is filled from its end: the list is what stands from `from` on, so that to put a name in
 /// front of it moves nothing.
+#[derive(Drop)]
 pub struct NameList {
     names: [u32; 4096],
     from: usize,

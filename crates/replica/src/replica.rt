@@ -18,6 +18,7 @@ pub use leave::LeaveToSign;
 pub use leave::Spent;
 
 /// One member's seat: what it has taken in and signed, the latest first, and the round for which it makes its next block.
+#[derive(Drop)]
 pub struct Replica {
     number: u32,
     round: u32,

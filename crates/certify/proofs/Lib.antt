@@ -1,5 +1,0 @@
-mod Lines
-mod Tallies
-mod Meanings
-mod Once
-mod Buffers

@@ -1,5 +1,0 @@
-pub mod Lines
-pub mod Signatures
-pub mod Tallies
-pub mod Replies
-pub mod Buffers

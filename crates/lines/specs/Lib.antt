@@ -1,0 +1,5 @@
+pub mod Words
+pub mod Left
+pub mod Numbers
+pub mod Hex
+pub mod Buffers

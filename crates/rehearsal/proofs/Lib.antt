@@ -1,0 +1,10 @@
+mod Growing
+mod Sitting
+mod Noting
+mod Wording
+mod Acting
+mod Setting
+mod Reading
+mod Parsing
+mod Introducing
+mod Responding

@@ -1,0 +1,11 @@
+pub mod Books
+pub mod Seated
+pub mod Noted
+pub mod Words
+pub mod Glossaries
+pub mod Scenes
+pub mod Played
+pub mod Saying
+pub mod Commands
+pub mod Ordering
+pub mod Answering
