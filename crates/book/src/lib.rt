@@ -1,5 +1,7 @@
 // Blocks by their names. The calls of a seat and the order are generic over the trait of books; the book of this crate keeps its blocks in
 // lent memory.
+#![tactic(auto)]
+
 mod book;
 mod entry;
 pub mod library;

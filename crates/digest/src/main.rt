@@ -1,6 +1,7 @@
 //! Reads lines of hexadecimal digits, and prints SHA3-256 and SHA3-512 of the bytes of each, or `no` for a line that is not such.
 //!
 //! Two lower-case digits are a byte, and an empty line is the empty message.
+#![tactic(auto)]
 
 mod answer;
 mod hex;

@@ -1,4 +1,6 @@
 // What programs that read lines need: words, numbers, hexadecimal, and lines that are held up to a limit.
+#![tactic(auto)]
+
 pub mod buffer;
 pub mod hex;
 pub mod numbers;

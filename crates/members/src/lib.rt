@@ -1,4 +1,6 @@
 // Sets of members, as the bits of a number, and how many of a committee are needed.
+#![tactic(auto)]
+
 ghost use Rattle.std.specs.Prelude.{◌≡◌, ℕ, ◌<◌, ◌≤◌, List, [], Ok, Err, nat_le};
 ghost use Rattle.model.specs.Names.{is_in, different};
 ghost use Rattle.model.specs.Thresholds.{quorum, needed_votes};

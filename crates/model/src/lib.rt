@@ -1,5 +1,7 @@
 // The theorems of the model, each in the contract of a function of its own: the check asks for the proof of a statement only where a
 // contract names it. The definitions stand in specs/, in reading order as specs/Lib.antt lists them.
+#![tactic(auto)]
+
 ghost use Rattle.model.specs.Thresholds.{ThresholdsHold};
 ghost use Rattle.model.specs.Promise.{SignsOne, TakesOne, OneCertified, WebsWhole, OrdersAgree, OrdersGrow, NothingTwice, NothingForged, CausesFirst, NoDeadEnd, MainPromise};
 ghost use Rattle.model.specs.Cases.{AllCases};

@@ -1,5 +1,7 @@
 // The order, read off a web in linear time. Each block has a place in tables, by its round and author, so that walking the places is walking
 // the web by rounds and authors, and no sorting or search by name is needed.
+#![tactic(auto)]
+
 ghost use Rattle.std.specs.Prelude.{◌≡◌, ◌+◌, ◌≤◌, T, length};
 ghost use Rattle.model.specs.Names.{distinct};
 ghost use Rattle.model.specs.Order.{order};

@@ -1,4 +1,6 @@
 // For `bench/run-order`: the order of a book in slices, for programs of other languages that link `liborder_bench.a`.
+#![tactic(auto)]
+
 ghost use Rattle.std.specs.Prelude.{◌≡◌, ◌≤◌, T, length, get_or};
 ghost use Rattle.model.specs.Names.{distinct};
 ghost use Rattle.model.specs.Order.{order};

@@ -1,4 +1,6 @@
 // A whole committee, played from a script.
+#![tactic(auto)]
+
 mod act;
 mod command;
 mod committee;

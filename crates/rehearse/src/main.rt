@@ -1,4 +1,6 @@
 // `rehearse F SCRIPT` plays a whole committee from a script.
+#![tactic(auto)]
+
 use anyhow::anyhow;
 use lines::numbers::number;
 use members::Faults;

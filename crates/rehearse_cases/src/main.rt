@@ -1,5 +1,7 @@
 // `rehearse_cases F SCRIPT F SCRIPT ..` plays scripts one after the other, each with a committee of its own, and prints the name of each before
 // what it prints. Its stored run holds the cases of the protocol.
+#![tactic(auto)]
+
 use lines::numbers::number;
 use members::Faults;
 use rehearsal::play;

@@ -1,4 +1,6 @@
 // One member's seat: what the member's program signs, takes in and makes, and the order that it reads, by what it holds and a book of blocks.
+#![tactic(auto)]
+
 ghost use Rattle.replica.specs.Kept.{WebsStayFit};
 
 mod checks;

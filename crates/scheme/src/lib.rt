@@ -1,4 +1,5 @@
 //! Signatures: the trait that every program signs and checks by, and the scheme for rehearsals.
+#![tactic(auto)]
 
 mod keys;
 mod record;

@@ -2,6 +2,7 @@
 //!
 //! `specs/Sponge.antt` has the definition, and each function here says that it gives the definition's bytes.
 //! A hasher holds the bytes that it was fed: none when it is new, more with each `update`; `finish` gives the digest of all of them.
+#![tactic(auto)]
 
 mod digest256;
 mod digest512;

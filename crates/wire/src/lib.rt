@@ -1,4 +1,5 @@
 // Messages and their bytes.
+#![tactic(auto)]
 
 pub fn placeholder() -> u8 {
     0
