@@ -1,6 +1,6 @@
 -- Where the numbers of rho and iota come from: the standard's own definitions of them, computed.
 
-use Rattle.std.specs.Prelude.{◌≡◌, ℕ, zero, suc, ◌+◌, ◌-◌, ◌*◌, ◌/◌, ◌%◌, ◌^◌, cond, List, [], ◌∷◌, replicate, bit_xor, nat_le, slice_set}
+use Rattle.std.specs.Prelude.{◌≡◌, ℕ, zero, suc, ◌+◌, ◌*◌, ◌/◌, ◌%◌, ◌^◌, cond, List, [], ◌∷◌, replicate, bit_xor, nat_le, slice_set}
 use Rattle.sha3.specs.Keccak.{offsets, round_constants}
 
 -- Algorithm 2, step 3: n steps of the walk from lane (x, y) at step t, each of which gives a lane its offset.
