@@ -1,9 +1,9 @@
 -- The laws of `Unforged`: it stays as more is signed, holds of lists together, and can be met.
 -- Assumes nothing.
 
-use Rattle.std.proofs.Common.{◌≡◌, ℕ, Bool, true, List, [], ◌∷◌, ◌++◌, sym, refl, ap, ◌∙◌, subst}
+use Rattle.std.proofs.Common.{[], ◌∷◌, ap, ◌∙◌}
 use Rattle.scheme.specs.Bytes.{is_in}
-use Rattle.scheme.specs.Ideal.{Signed, Unforged, Unforged-stays, Unforged-joins, Ideal-can-be-met}
+use Rattle.scheme.specs.Ideal.{Unforged, Unforged-stays, Unforged-joins, Ideal-can-be-met}
 use Rattle.scheme.proofs.Bytes.{is_in_later}
 
 pub unforged_stays : Unforged-stays
