@@ -1,6 +1,7 @@
 // The lines of an input, one after the other.
 ghost use Rattle.std.specs.Prelude.{◌≡◌, ℕ, ◌<◌, ◌≤◌, List, length, Some, None, OnOk};
 ghost use Rattle.lines.specs.Buffers.{longest, Keeps, HoldsLine};
+ghost use Rattle.lines.specs.declared.reader.TheConstants.{CHUNK};
 
 use crate::buffer::LineBuffer;
 use std::alloc::Global;
@@ -21,7 +22,7 @@ pub struct LineReader<R> {
     filled: usize,
     line: LineBuffer,
     ghost passed: { at ≤ filled },
-    ghost fits: { filled ≤ 4096 },
+    ghost fits: { filled ≤ CHUNK },
 }
 
 impl<R: Read> LineReader<R> {

@@ -4,4 +4,4 @@ use Rattle.lines.proofs.reader.LineReader.new.Goals as goal
 
 pub returns : goal.returns
 unfolding has
-returns g c = record { line = []; keeps = c.new-2.ensures; clean = refl }
+returns g c = record { line = []; keeps = c.new.ensures; clean = refl }

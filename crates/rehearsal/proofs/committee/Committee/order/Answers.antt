@@ -12,9 +12,9 @@ returns c s p =
     let member = c.if-not-has-member.ensures ∙ ap (λ f. ltb i (members f)) p.faults in
     let g = good_so s c.args.book.now self p i member (c.if-contains.ensures s.bad p.bad) in
     let seat = member_seated s c.args.book.now self p i g in
-    order-good s c.args.book.now self p i (vec_items c.in-ok-first.field-0) g
+    order-good s c.args.book.now self p i (vec_items c.in_ok-first.field-0) g
     (names-read s c.args.book.now self p c.most-bad.result (c.most-bad.ensures ∙ p.faults) (held c.view.result) (c.view.ensures ∙ p.book) i g
-    c.order-count.result c.order-count.new.out (vec_items c.in-ok-first.field-0) c.in-ok-first.ensures
+    c.order-count.result c.order-count.new.out (vec_items c.in_ok-first.field-0) c.in_ok-first.ensures
     (c.order-count.ensures.count (world_in s).all p.seats seat) (c.order-count.ensures.listed (world_in s).all p.seats seat))
 
 pub order-count-requires : goal.order-count-requires

@@ -4,11 +4,11 @@ use Rattle.rehearsal.specs.Scenes.{world_in, is_bad}
 use Rattle.rehearsal.proofs.Acting.{signs-refused, signs-done, small_number}
 use Rattle.rehearsal.proofs.committee.Committee.signs.Goals as goal
 
-pub returns-in-default : goal.returns-in-default
-returns-in-default c s p there =
+pub returns-in_default : goal.returns-in_default
+returns-in_default c s p there =
     signs-refused s c.args.book.now c.args.self.now _ p (record { faults = refl; bad = refl; words = refl }) c.args.member c.args.name
     (sym (c.if-not-is-good.ensures s c.args.book.now p)) c.most-bad-f.result (c.most-bad-f.ensures ∙ p.faults) (held c.view.result) (c.view.ensures ∙ p.book)
-    c.is-genuine-genuine.result (c.is-genuine-genuine.ensures s p) (c.in-default.ensures.steps (world_in s).all p.seats) refl
+    c.is-genuine-genuine.result (c.is-genuine-genuine.ensures s p) (c.in_default.ensures.steps (world_in s).all p.seats) refl
 
 pub returns : goal.returns
 returns c s p there =

@@ -5,11 +5,11 @@ use Rattle.model.specs.Seat.{full_signed}
 use Rattle.rehearsal.proofs.Sitting.{nobody, number_is, stepped, place_within, place_out}
 use Rattle.rehearsal.proofs.seats.Seats.sign.Goals as goal
 
-pub returns-in-default : goal.returns-in-default
-returns-in-default g c = record {
+pub returns-in_default : goal.returns-in_default
+returns-in_default g c = record {
   steps = λ ms sit.
       let seats = c.args.self.now.seats in
-      nobody ms c.args.member _ _ _ (vec_items seats) sit (place_out seats c.args.member (ltb_from_iff c.in-default.ensures.variant));
+      nobody ms c.args.member _ _ _ (vec_items seats) sit (place_out seats c.args.member (ltb_from_iff c.in_default.ensures.variant));
   leave = λ ms sit. tt;
 }
 
