@@ -9,4 +9,4 @@ returns-in-Some-number c = (c.in-Some.digits.now, c.in-Some.ensures, record { wr
 pub returns-in-None : goal.returns-in-None
 returns-in-None c digits ws n e r =
     none_read c.in-Some.digits.now digits n
-    (heads (left c.args.words.now) c.in-Some.digits.now digits (left c.next-word.new.self) ws c.in-Some.ensures e) c.in-None.ensures r
+    (heads (left c.args.words.now) c.in-Some.digits.now digits (left c.next_word.new.self) ws c.in-Some.ensures e) c.in-None.ensures r

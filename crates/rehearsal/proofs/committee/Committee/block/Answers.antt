@@ -19,12 +19,12 @@ returns c =
           let self = c.meet.new.self in
           let told =
           subst (λ (parents : List ℕ). Meets l s (block_of c.args.author c.args.round parents load) (Some c.in-Some-2.name) c.meet.new.book self)
-          c.as-slice.ensures.value
-          (subst (λ (o : Option ℕ). Meets l s (block_of c.args.author c.args.round c.as-slice.result.now load) o c.meet.new.book self)
+          c.as_slice.ensures.value
+          (subst (λ (o : Option ℕ). Meets l s (block_of c.args.author c.args.round c.as_slice.result.now load) o c.meet.new.book self)
           c.in-Some-2.is (c.in_ok-name.ensures.plays s p)) in (
             names,
             record {
-              unused = ap (name_in c.args.word.now) (sym p.words) ∙ sym c.name-of.ensures ∙ no_name c.name-of.result c.if-is-some.ensures;
+              unused = ap (name_in c.args.word.now) (sym p.words) ∙ sym c.name_of.ensures ∙ no_name c.name_of.result c.if-is_some.ensures;
               author_small = c.if-author-ge-AUTHORS.false;
               round_small = c.if-round-ge-ROUNDS.false;
               parents_are =

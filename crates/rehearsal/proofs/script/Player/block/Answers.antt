@@ -18,4 +18,4 @@ returns c s p =
     introduced (memory c.args.book.now) s (described block) (vec_items c.in-Some.load) c.in_ok-named.named c.block.new.book c.block.new.self load
     (subst (λ (bytes : List ℕ).
     Named (memory c.args.book.now) s block.word.now block.author block.round bytes (left block.parents) c.in_ok-named.named c.block.new.book c.block.new.self)
-    c.as-slice.ensures.value (c.in_ok-named.ensures.plays s p))
+    c.as_slice.ensures.value (c.in_ok-named.ensures.plays s p))
