@@ -2,29 +2,28 @@
 -- good; its block gets the votes of all good members, and brings everything into every order. Assumes that at most f members are bad, f is at
 -- most 4, and the book has a name for every block within the limits.
 use mathlib.Core.Path.{◌≡◌, refl, ap, sym, subst, ◌∙◌}
-use mathlib.Core.Bool.{Bool, true, false, cond, ◌&&◌, ◌||◌, not}
+use mathlib.Core.Bool.{Bool, not}
 use mathlib.Core.List.{List, [], ◌∷◌, ◌++◌}
-use mathlib.Core.Logic.{◌⊎◌, inl, inr, ⊎_elim}
+use mathlib.Core.Logic.{⊎_elim}
 use Prim.Native.Nat.{ℕ, zero, suc, ◌+◌, ◌-◌, ◌*◌, ◌/◌, ◌%◌, ◌≤◌, ◌<◌}
 use native.Mathlib.Nat.{mul_comm, le-mul_of_pos_right, mul-add-mod_self_left, mod-eq_of_lt}
 use native.Mathlib.Omega.{arith}
 use lib.Dec.{T, ltb, lt→ltb}
-use Rattle.model.specs.Names.{all_in, different, union}
-use Rattle.model.specs.Thresholds.{members, needed_votes, Few}
+use Rattle.model.specs.Names.{all_in, union}
+use Rattle.model.specs.Thresholds.{members, Few}
 use Rattle.model.specs.Blocks.{Block, Book, authors_at, within_limits}
 use Rattle.model.specs.Reach.{reached}
-use Rattle.model.specs.Order.{leader, leader_block, votes_for, Found, anchors_of, order}
-use Rattle.model.specs.World.{World, Event, member_at, good, world, web_of, order_of}
+use Rattle.model.specs.Order.{leader}
+use Rattle.model.specs.World.{Event, member_at, good, world, web_of, order_of}
 use Rattle.model.specs.Promise.{by_good, NoDeadEnd}
 use Rattle.model.proofs.Tools.{and_both, same_or_not}
 use Rattle.model.proofs.Lists.{In, Within, in_here, in_there, in_none, in_cons, in_single, all_in_lem, distinct_none, distinct_cons, in_union_left, in_union_right}
 use Rattle.model.proofs.Thresholds.{today, good_have_votes, votes_few, some_good, member_some}
 use Rattle.model.proofs.Validity.{in_authors, authors_in}
-use Rattle.model.proofs.Webs.{SoundWeb}
 use Rattle.model.proofs.Reach.{reached_self, reached_parents, reached_through}
 use Rattle.model.proofs.TwoWebs.{leader_block_found, votes_of_authors, voted_is_anchor}
 use Rattle.model.proofs.InOrder.{anchor_listed}
-use Rattle.model.proofs.Worlds.{Grown, Sound, always_sound, web_sound, good_member}
+use Rattle.model.proofs.Worlds.{Sound, always_sound, web_sound, good_member}
 use Rattle.model.proofs.Steps.{After, after_none, after_then, after_grown}
 use Rattle.model.proofs.Spread.{AllHave, spread}
 use Rattle.model.proofs.Rounds.{made_of, Parents, NextRound, next_round, Row, row, row_parents, no_parents}

@@ -1,21 +1,20 @@
 -- Going back from the last anchor by marks: the anchors found are those of the definition, and in the end a block has an anchor's mark, or a
 -- higher one, exactly if that anchor reaches it. Assumes nothing.
-use Rattle.std.proofs.Common.{◌≡◌, ℕ, zero, suc, ◌+◌, ◌-◌, ◌*◌, ◌/◌, ◌%◌, ◌<◌, ◌≤◌, Bool, true, false, cond, not, ◌&&◌, T, eqb, ltb, ◌⊎◌, List, [], ◌∷◌, ◌++◌, length, get_or, set, sym, refl, ap, ◌∙◌, subst, inl, inr, ⊎_elim, append_assoc, append-nil, suc-mul, zero-mul, arith, eqb→eq, ltb→lt, lt→ltb, nltb→le, T_not, length-append, length-set, get_or-set_same}
+use Rattle.std.proofs.Common.{◌≡◌, ℕ, zero, suc, ◌+◌, ◌*◌, ◌/◌, ◌%◌, ◌<◌, ◌≤◌, cond, eqb, ltb, ◌⊎◌, List, [], ◌∷◌, ◌++◌, length, get_or, set, sym, refl, ap, ◌∙◌, subst, inl, inr, ⊎_elim, append_assoc, append-nil, suc-mul, zero-mul, arith, eqb→eq, ltb→lt, nltb→le, T_not, length-append, length-set, get_or-set_same}
 use lib.Dec.{not_T}
 use Rattle.model.specs.Names.{is_in}
 use Rattle.model.specs.Thresholds.{members}
 use Rattle.model.specs.Blocks.{Book}
 use Rattle.model.specs.Reach.{reached}
 use Rattle.model.specs.Order.{Sought, Missing, Found, leader_block, anchors_to}
-use Rattle.model.proofs.Tools.{decided, cond_cases, cond-then, cond-else, eq→eqb, not_eqb, same_or_not}
-use Rattle.model.proofs.Lists.{In, Within, in_none, in_here, in_there, in_cons, in_or_not}
-use Rattle.model.proofs.Thresholds.{today, member_some}
+use Rattle.model.proofs.Tools.{cond_cases, cond-then, cond-else, eq→eqb, not_eqb, same_or_not}
+use Rattle.model.proofs.Lists.{In, in_none, in_here, in_there, in_cons}
 use Rattle.model.proofs.Validity.{valid_earlier}
 use Rattle.model.proofs.Webs.{SoundWeb}
 use Rattle.model.proofs.Reach.{reached_self, reached_all, reached_parents}
 use Rattle.order_theory.specs.Tables.{place_of, leader_place, raised, raised_all, handed_on, row_handed_on}
 use Rattle.order_theory.specs.Tables.{Marked, leader_tested, one_row, went_back, marked_from}
-use Rattle.order_theory.proofs.Places.{place_is, place_alone, place_before, place_from, Tabled, less_or_not, set_either}
+use Rattle.order_theory.proofs.Places.{place_alone, place_before, place_from, Tabled, set_either}
 use Rattle.order_theory.proofs.Votes.{leader_there, leader_place_lem}
 
 -- ---- marks raised to m at the places of a list of blocks
