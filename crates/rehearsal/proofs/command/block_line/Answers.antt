@@ -1,6 +1,5 @@
-use Rattle.std.proofs.Common.{◌≡◌, [], ◌∷◌}
+use Rattle.std.proofs.Common.{◌∷◌}
 use Rattle.lines.specs.Left.{left}
-use Rattle.rehearsal.specs.Saying.{Described, Describes}
 use Rattle.rehearsal.proofs.Parsing.{tails}
 use Rattle.rehearsal.proofs.command.block_line.Goals as goal
 

@@ -1,4 +1,4 @@
-use Rattle.std.proofs.Common.{sym, rules}
+use Rattle.std.proofs.Common.{rules}
 use Rattle.lines.specs.Left.{left}
 use Rattle.rehearsal.proofs.Parsing.{heads, none_read}
 use Rattle.rehearsal.proofs.command.next_number.Goals as goal

@@ -1,6 +1,6 @@
 use Rattle.std.proofs.Common.{◌≡◌, ◌<◌, ◌≤◌, true, ◌||◌, T, ltb, length, vec_items, sym, refl, ap, ◌∙◌, subst, arith, ltb→lt}
-use Rattle.std.proofs.lemmas.Bool.{eqb-true, lt-ltb}
-use Rattle.model.specs.Names.{is_in, different}
+use Rattle.std.proofs.lemmas.Bool.{eqb-true}
+use Rattle.model.specs.Names.{different}
 use Rattle.model.specs.Thresholds.{members}
 use Rattle.model.proofs.Thresholds.{members-fit}
 use Rattle.rehearsal.specs.Scenes.{is_bad}

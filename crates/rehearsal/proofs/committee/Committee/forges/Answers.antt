@@ -1,8 +1,7 @@
 use Rattle.std.proofs.Common.{◌<◌, T, ltb, length, vec_items, sym, refl, ap, ◌∙◌, subst, arith}
 use Rattle.model.proofs.Lists.{in_below}
 use Rattle.model.specs.Thresholds.{members}
-use Rattle.book.specs.Views.{held}
-use Rattle.rehearsal.specs.Scenes.{world_in, is_bad}
+use Rattle.rehearsal.specs.Scenes.{world_in}
 use Rattle.rehearsal.proofs.Acting.{forges_done}
 use Rattle.rehearsal.proofs.committee.Committee.forges.Goals as goal
 

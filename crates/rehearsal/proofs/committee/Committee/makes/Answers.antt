@@ -1,6 +1,6 @@
-use Rattle.std.proofs.Common.{◌<◌, length, vec_items, sym, refl, ap, ◌∙◌, arith}
+use Rattle.std.proofs.Common.{◌<◌, length, vec_items, sym, refl, ◌∙◌, arith}
 use Rattle.book.specs.Views.{held}
-use Rattle.rehearsal.specs.Scenes.{world_in, is_bad}
+use Rattle.rehearsal.specs.Scenes.{world_in}
 use Rattle.rehearsal.proofs.Acting.{makes-refused, makes-done}
 use Rattle.rehearsal.proofs.committee.Committee.makes.Goals as goal
 

@@ -1,4 +1,4 @@
-use Rattle.std.proofs.Common.{List, length, sym, refl, ap, ◌∙◌, subst}
+use Rattle.std.proofs.Common.{List, length, refl, ap, ◌∙◌, subst}
 use Rattle.book.specs.Books.{blocks, memory}
 use Rattle.book.specs.Meeting.{block_of, Met}
 use Rattle.model.specs.Blocks.{Block}

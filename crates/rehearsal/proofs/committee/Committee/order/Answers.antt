@@ -1,4 +1,4 @@
-use Rattle.std.proofs.Common.{◌≡◌, ◌≤◌, true, ltb, vec_items, sym, ap, ◌∙◌, subst}
+use Rattle.std.proofs.Common.{◌≤◌, ltb, vec_items, sym, ap, ◌∙◌, subst}
 use Rattle.book.specs.Views.{held}
 use Rattle.model.specs.Thresholds.{members}
 use Rattle.rehearsal.specs.Scenes.{world_in}

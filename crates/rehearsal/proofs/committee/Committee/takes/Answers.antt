@@ -1,6 +1,6 @@
-use Rattle.std.proofs.Common.{◌<◌, length, vec_items, sym, refl, ap, ◌∙◌, arith}
+use Rattle.std.proofs.Common.{sym, refl, ◌∙◌}
 use Rattle.book.specs.Views.{held}
-use Rattle.rehearsal.specs.Scenes.{world_in, is_bad}
+use Rattle.rehearsal.specs.Scenes.{world_in}
 use Rattle.rehearsal.proofs.Acting.{takes-so}
 use Rattle.rehearsal.proofs.committee.Committee.takes.Goals as goal
 

@@ -1,4 +1,4 @@
-use Rattle.std.proofs.Common.{vec_items, sym, ◌∙◌}
+use Rattle.std.proofs.Common.{vec_items, sym}
 use Rattle.lines.specs.Left.{left}
 use Rattle.rehearsal.specs.Glossaries.{namings}
 use Rattle.rehearsal.proofs.Wording.{names_start, names_more, names_fail, names_end}

@@ -1,4 +1,4 @@
-use Rattle.std.proofs.Common.{vec_items, sym, ap, ◌∙◌}
+use Rattle.std.proofs.Common.{vec_items, sym, ◌∙◌}
 use Rattle.rehearsal.proofs.Wording.{text-here, text-later, text-end}
 use Rattle.rehearsal.proofs.glossary.Glossary.text_of.Goals as goal
 
