@@ -264,8 +264,8 @@ module _ (f : ℕ) (small : f ≤ 4) (b : Book) (name_of : Block → ℕ) (named
       )
 
   -- steps that bring the made blocks into all good orders are what is asked for
-  Way-out : List Event → Type 0
-  Way-out es =
+  WayOut : List Event → Type 0
+  WayOut es =
       (es' : List Event) × After f b bad es es' × ((i : ℕ) → T (good f bad i) → Within (world f b bad es).made (order_of f b bad i es'))
 
   -- the round of a good leader that comes after round r
@@ -281,8 +281,8 @@ module _ (f : ℕ) (small : f ≤ 4) (b : Book) (name_of : Block → ℕ) (named
 
   -- from a level that has gathered what was made, on to a good leader's round and one more
   from_gathered :
-      (es es' : List Event) (r : ℕ) (all : List ℕ) → After f b bad es es' → Level f b bad r all es' → Within (world f b bad es).made all → Way-out es
-  unfolding Way-out
+      (es es' : List Event) (r : ℕ) (all : List ℕ) → After f b bad es es' → Level f b bad r all es' → Within (world f b bad es).made all → WayOut es
+  unfolding WayOut
   from_gathered es es' r all way l made =
       let turn = leaders_round r in
       let k = turn.0 in
@@ -294,7 +294,7 @@ module _ (f : ℕ) (small : f ≤ 4) (b : Book) (name_of : Block → ℕ) (named
         λ i g y t. ordered k all at.0 last.0 turn.2 at.2 last.1 last.2 last.3 i g y (made y t),
       )
 
-  from_level : (es es' : List Event) (r : ℕ) → After f b bad es es' → Level f b bad r [] es' → Way-out es
+  from_level : (es es' : List Event) (r : ℕ) → After f b bad es es' → Level f b bad r [] es' → WayOut es
   from_level es es' r way l =
       let sound = always_sound f b bad es' in
       let all =
@@ -306,13 +306,13 @@ module _ (f : ℕ) (small : f ≤ 4) (b : Book) (name_of : Block → ℕ) (named
       omega arith) in
       from_gathered es all.0 all.1 all.2 (after_then way all.3) all.4 all.5
 
-  way_out : (es : List Event) → Way-out es
+  way_out : (es : List Event) → WayOut es
   way_out es = let up = levelled es in from_level es up.0 up.1 up.2 up.3
 
   as_steps :
-      (es : List Event) → Way-out es →
+      (es : List Event) → WayOut es →
       (ds : List Event) × T (by_good f b bad ds) × ((i : ℕ) → T (good f bad i) → T (all_in (world f b bad es).made (order_of f b bad i (ds ++ es))))
-  unfolding Way-out
+  unfolding WayOut
   as_steps es (es', way, brings) = (
     way.steps,
     way.by_good_lem,

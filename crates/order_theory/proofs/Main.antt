@@ -14,7 +14,7 @@ use Rattle.order_theory.specs.Tables.{marked_from, written_by, steps_on, StepsWr
 use Rattle.order_theory.proofs.Sound.{sound_web, rounds_few, rows_fit}
 use Rattle.order_theory.proofs.Places.{place_before, Tabled, noughts, noughts_at, less_or_not, entered, entered_low, marks_length}
 use Rattle.order_theory.proofs.Votes.{Matches, last_same, leader_place_lem}
-use Rattle.order_theory.proofs.Marks.{Found-all, marked_from_lem, anchors_few}
+use Rattle.order_theory.proofs.Marks.{FoundAll, marked_from_lem, anchors_few}
 use Rattle.order_theory.proofs.Chains.{all_linked_lem, wrote}
 use Rattle.order_theory.proofs.Steps.{written_is}
 use Rattle.order_theory.proofs.Listing.{all_listed}
@@ -39,7 +39,7 @@ module _ {f : ℕ} {b : Book} {web : List ℕ} (sound : SoundWeb f b web) (few :
 
   -- from the marks and the number of anchors, the order is written
   written_from_lem :
-      (all names : List ℕ) (t : Marked) (heads nexts : List ℕ) → Found-all sound names all t → length all < 2049 → length heads ≡ 2050 →
+      (all names : List ℕ) (t : Marked) (heads nexts : List ℕ) → FoundAll sound names all t → length all < 2049 → length heads ≡ 2050 →
       ((m : ℕ) → get_or heads m 0 ≡ 0) → length nexts ≡ 6400 →
       all_written names (all_linked t.marks (length t.marks) (record { heads = heads; nexts = nexts })) t.anchors (wrote [])
       ≡ wrote (listed b [] all)

@@ -31,5 +31,5 @@ defined_constants zero i = []
 defined_constants (suc n) i = defined_constant i ∷ defined_constants n (i + 1)
 
 -- The tables in use are these.
-abbrev pub Tables-stand : Type 0
-Tables-stand = (offsets ≡ walked_offsets) × (round_constants ≡ defined_constants 24 0)
+abbrev pub TablesStand : Type 0
+TablesStand = (offsets ≡ walked_offsets) × (round_constants ≡ defined_constants 24 0)
