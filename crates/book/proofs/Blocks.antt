@@ -1,5 +1,5 @@
 -- The blocks that tables hold, by their names: what stands at a name, and what a name past the last one reads as. Assumes nothing.
-use Rattle.std.proofs.Common.{◌≡◌, ℕ, ◌+◌, ◌<◌, ◌≤◌, Bool, true, false, List, map, length, get_or, take, drop, Decides, sym, refl, ap, ◌∙◌, true≢false, arith}
+use Rattle.std.proofs.Common.{◌≡◌, ℕ, ◌+◌, ◌<◌, ◌≤◌, Bool, false, List, length, get_or, drop, Decides, sym, ap, ◌∙◌, true≢false, arith}
 use Rattle.std.proofs.lemmas.List.{length-map, get_or-map, get_or_past, length-take-le, length-drop}
 use Rattle.model.specs.Blocks.{Block}
 use Rattle.book.specs.declared.entry.Entry.{Entry}

@@ -1,13 +1,13 @@
 -- One more block behind those that the tables hold: what was there stays, and the new one stands at the end. Assumes that the blocks before
 -- lie below where the tables are filled.
-use Rattle.std.proofs.Common.{◌≡◌, ℕ, ◌+◌, ◌<◌, ◌≤◌, List, [], ◌∷◌, ◌++◌, map, length, get_or, take, drop, set, sym, refl, ap, ◌∙◌, subst, le_refl, arith, below_more}
+use Rattle.std.proofs.Common.{◌≡◌, ℕ, ◌+◌, ◌<◌, ◌≤◌, List, [], ◌∷◌, ◌++◌, length, get_or, take, drop, set, sym, refl, ap, ◌∙◌, subst, le_refl, arith, below_more}
 use borrow.Rule.Slice.PartMut.{put_mid, post_of, same_len_mid}
-use Rattle.std.proofs.lemmas.List.{length-map, length-take-le, length-drop, drop-take, take-take, take_at, drop_at, ext_get_or, take_more_set, map_push, get_or_append_left, get_or_push, length_push}
+use Rattle.std.proofs.lemmas.List.{length-take-le, length-drop, drop-take, take-take, take_at, drop_at, ext_get_or, take_more_set, map_push, get_or_append_left, get_or_push, length_push}
 use Rattle.std.proofs.lemmas.Slice.{take-put_mid_below}
 use Rattle.model.specs.Blocks.{Block}
 use Rattle.book.specs.declared.entry.Entry.{Entry}
 use Rattle.book.specs.declared.tables.Tables.{Tables}
-use Rattle.book.specs.Content.{empty_block, book_of, stretch, block_at, blocks_of, empty_entry, Placed, AllPlaced}
+use Rattle.book.specs.Content.{empty_block, stretch, block_at, blocks_of, empty_entry, Placed, AllPlaced}
 use Rattle.book.specs.Meeting.{block_of}
 use Rattle.book.specs.Memory.{contents, parents_of_all, bytes_of_all, Lent}
 use Rattle.book.proofs.Blocks.{how_many, block_there}

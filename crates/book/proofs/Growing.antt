@@ -1,12 +1,12 @@
 -- One more block at the end of a book's blocks: what always holds of a book holds again, and the names before keep what they stand for.
 -- Assumes that the new block is none of the others, isn't too large, and has its parents among them.
-use Rattle.std.proofs.Common.{◌≡◌, ℕ, ◌+◌, ◌<◌, ◌≤◌, true, T, leb, List, [], ◌∷◌, ◌++◌, length, get_or, sym, refl, ap, ◌∙◌, subst, inr, arith, le→leb, below_more}
+use Rattle.std.proofs.Common.{◌≡◌, ℕ, ◌<◌, ◌≤◌, T, leb, List, [], ◌∷◌, ◌++◌, length, get_or, sym, refl, ap, ◌∙◌, subst, inr, arith, le→leb, below_more}
 use Rattle.std.proofs.lemmas.List.{get_or_append_left, get_or_push, length_push}
 use Rattle.model.specs.Names.{all_below}
 use Rattle.model.specs.Blocks.{Block, max_parents, max_load, byte_limit, within_limits}
 use Rattle.model.proofs.Tools.{and_both}
 use Rattle.book.specs.Content.{empty_block, book_of, OneName, Limited, ParentsBefore}
-use Rattle.book.specs.Memory.{Lent, HasRoom}
+use Rattle.book.specs.Memory.{Lent}
 use Rattle.book.specs.Meeting.{Absent, Named, Acceptable, New, Met}
 use Rattle.book.proofs.Filling.{each_more}
 use Rattle.book.proofs.Below.{each_below}

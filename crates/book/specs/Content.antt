@@ -1,5 +1,5 @@
 -- What a book's tables hold: a list of blocks, each with its place in the list as its name. Assumes nothing.
-use Rattle.std.specs.Prelude.{◌≡◌, ℕ, ◌+◌, ◌<◌, ◌≤◌, T, List, [], ◌∷◌, map, length, take, drop, slice_index_or}
+use Rattle.std.specs.Prelude.{◌≡◌, ℕ, ◌+◌, ◌<◌, ◌≤◌, T, List, [], map, length, take, drop, slice_index_or}
 use Rattle.model.specs.Names.{all_below}
 use Rattle.model.specs.Blocks.{Block, Book, within_limits}
 use Rattle.book.specs.declared.entry.Entry.{Entry}

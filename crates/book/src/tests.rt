@@ -17,7 +17,7 @@ fn meets_twice(rt: &impl Abort, book: &mut Book) {
     assert_eq!(rt; book.meet(1, 0, &[], b"a"), Ok(1));
     assert_eq!(rt; book.meet(0, 1, &[0, 1], b"b"), Ok(2));
     assert_eq!(rt; book.meet(1, 0, &[], b"a"), Ok(1));
-    assert!(rt; book.view().load(2) == b"b");
+    assert!(rt; book.view().load(2) == b"b".as_slice());
 }
 
 #[test]

@@ -1,19 +1,28 @@
 // The lines of an input, one after the other.
 ghost use Rattle.std.specs.Prelude.{◌≡◌, ℕ, ◌<◌, ◌≤◌, List, length, Some, None, OnOk};
 ghost use Rattle.lines.specs.Buffers.{longest, Keeps, HoldsLine};
+ghost use Rattle.lines.specs.declared.reader.TheConstants.{CHUNK};
 
 use crate::buffer::LineBuffer;
 use std::alloc::Global;
 use std::io;
-use std::io::{BufReader, Read};
+use std::io::Read;
 
 const LINE_END: u8 = b'\n';
+
+// So many bytes of the input are read at once.
+const CHUNK: usize = 4096;
 
 /// Reads lines, which are bytes and end with a line feed; the last one may lack it.
 #[derive(Drop)]
 pub struct LineReader<R> {
-    input: BufReader<R>,
+    input: R,
+    chunk: [u8; CHUNK],
+    at: usize,
+    filled: usize,
     line: LineBuffer,
+    ghost passed: { at ≤ filled },
+    ghost fits: { filled ≤ CHUNK },
 }
 
 impl<R: Read> LineReader<R> {
@@ -22,7 +31,10 @@ impl<R: Read> LineReader<R> {
         ensures { HoldsLine result.line }
     {
         LineReader {
-            input: BufReader::new(input),
+            input,
+            chunk: [0; CHUNK],
+            at: 0,
+            filled: 0,
             line: LineBuffer::new(heap),
         }
     }
@@ -33,11 +45,15 @@ impl<R: Read> LineReader<R> {
     {
         self.line.clear();
         for _ in 0..u64::MAX {
-            let mut one = [0u8; 1];
-            if self.input.read(&mut one)? == 0 {
-                return Ok(!self.line.is_empty());
+            if self.at == self.filled {
+                self.filled = self.input.read(&mut self.chunk)?;
+                self.at = 0;
+                if self.filled == 0 {
+                    return Ok(!self.line.is_empty());
+                }
             }
-            let [byte] = one;
+            let byte = self.chunk[self.at];
+            self.at += 1;
             if byte == LINE_END {
                 return Ok(true);
             }

@@ -1,6 +1,6 @@
 // How many members of a committee may be bad, and the numbers that follow from it.
 ghost use Rattle.std.specs.Prelude.{◌≡◌, ◌<◌, ◌≤◌, Ok, Err, nat_lt};
-ghost use Rattle.model.specs.Thresholds.{members as members-of, quorum as quorum-of, needed_votes};
+ghost use Rattle.model.specs.Thresholds.{members as members_of, quorum as quorum_of, needed_votes};
 
 /// A committee that holds with this many bad members, 0 to 4: it has three times as many members and one more.
 #[derive(Clone, Copy, PartialEq, Eq, Debug)]
@@ -35,14 +35,14 @@ impl Faults {
 
     /// How many members there are: they are numbered from 0.
     pub fn members(self) -> u32
-        ensures { result ≡ members-of self.f }
+        ensures { result ≡ members_of self.f }
     {
         3 * self.f + 1
     }
 
     /// So many different members are a quorum.
     pub fn quorum(self) -> u32
-        ensures { result ≡ quorum-of self.f }
+        ensures { result ≡ quorum_of self.f }
     {
         2 * self.f + 1
     }
@@ -56,7 +56,7 @@ impl Faults {
 
     /// Whether there is a member of this number.
     pub fn has_member(self, member: u32) -> bool
-        ensures { result ≡ nat_lt member (members-of self.f) }
+        ensures { result ≡ nat_lt member (members_of self.f) }
     {
         member < self.members()
     }

@@ -1,8 +1,8 @@
 -- The small cases hold: all are computed but the lone member's, which is proofs/Chain.antt's.
 -- Assumes nothing.
 use mathlib.Core.Path.{◌≡◌, refl, ap}
-use mathlib.Core.List.{List, [], ◌∷◌}
-use Prim.Native.Nat.{ℕ, ◌-◌}
+use mathlib.Core.List.{[], ◌∷◌}
+use Prim.Native.Nat.{◌-◌}
 use Rattle.model.specs.Names.{is_in, distinct, different, union, without}
 use Rattle.model.specs.Thresholds.{members, quorum, needed_votes}
 use Rattle.model.specs.Blocks.{authors_at, all_earlier, valid}

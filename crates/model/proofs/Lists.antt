@@ -1,15 +1,15 @@
 -- Laws of lists read as sets: what is in a list, in a union, in what is left of one, and how many different ones there are. With these laws
 -- the definitions need not be opened again. Assumes nothing.
 use mathlib.Core.Path.{◌≡◌, refl, ap, sym, subst, ◌∙◌}
-use mathlib.Core.Bool.{Bool, true, false, cond, ◌&&◌, ◌||◌, not}
+use mathlib.Core.Bool.{not}
 use mathlib.Core.List.{List, [], ◌∷◌, ◌++◌}
 use mathlib.Core.Logic.{◌⊎◌, inl, inr, ⊎_elim}
-use Prim.Native.Nat.{ℕ, zero, suc, ◌+◌, ◌≤◌, ◌<◌}
+use Prim.Native.Nat.{ℕ, suc, ◌≤◌, ◌<◌}
 use native.Mathlib.Omega.{arith}
 use lib.Dec.{T, eqb, ltb, eqb→eq, eqb_refl, T_not, not_T, ltb→lt, lt→ltb}
 use lib.ListN.{length}
 use Rattle.model.specs.Names.{is_in, all_in, distinct, different, all_below, union, without}
-use Rattle.model.proofs.Tools.{and_left, and_right, and_both, or_cases, or_left, or_right, decided, cond_cases, cond-from, eq→eqb, cond-then, cond-else}
+use Rattle.model.proofs.Tools.{and_left, and_right, and_both, or_cases, or_left, or_right, decided, cond_cases, cond-from, cond-then, cond-else}
 
 -- x stands in xs
 abbrev pub In : ℕ → List ℕ → Type 0

@@ -2,29 +2,28 @@
 -- good; its block gets the votes of all good members, and brings everything into every order. Assumes that at most f members are bad, f is at
 -- most 4, and the book has a name for every block within the limits.
 use mathlib.Core.Path.{◌≡◌, refl, ap, sym, subst, ◌∙◌}
-use mathlib.Core.Bool.{Bool, true, false, cond, ◌&&◌, ◌||◌, not}
+use mathlib.Core.Bool.{Bool, not}
 use mathlib.Core.List.{List, [], ◌∷◌, ◌++◌}
-use mathlib.Core.Logic.{◌⊎◌, inl, inr, ⊎_elim}
+use mathlib.Core.Logic.{⊎_elim}
 use Prim.Native.Nat.{ℕ, zero, suc, ◌+◌, ◌-◌, ◌*◌, ◌/◌, ◌%◌, ◌≤◌, ◌<◌}
 use native.Mathlib.Nat.{mul_comm, le-mul_of_pos_right, mul-add-mod_self_left, mod-eq_of_lt}
 use native.Mathlib.Omega.{arith}
 use lib.Dec.{T, ltb, lt→ltb}
-use Rattle.model.specs.Names.{all_in, different, union}
-use Rattle.model.specs.Thresholds.{members, needed_votes, Few}
+use Rattle.model.specs.Names.{all_in, union}
+use Rattle.model.specs.Thresholds.{members, Few}
 use Rattle.model.specs.Blocks.{Block, Book, authors_at, within_limits}
 use Rattle.model.specs.Reach.{reached}
-use Rattle.model.specs.Order.{leader, leader_block, votes_for, Found, anchors_of, order}
-use Rattle.model.specs.World.{World, Event, member_at, good, world, web_of, order_of}
+use Rattle.model.specs.Order.{leader}
+use Rattle.model.specs.World.{Event, member_at, good, world, web_of, order_of}
 use Rattle.model.specs.Promise.{by_good, NoDeadEnd}
 use Rattle.model.proofs.Tools.{and_both, same_or_not}
 use Rattle.model.proofs.Lists.{In, Within, in_here, in_there, in_none, in_cons, in_single, all_in_lem, distinct_none, distinct_cons, in_union_left, in_union_right}
 use Rattle.model.proofs.Thresholds.{today, good_have_votes, votes_few, some_good, member_some}
 use Rattle.model.proofs.Validity.{in_authors, authors_in}
-use Rattle.model.proofs.Webs.{SoundWeb}
 use Rattle.model.proofs.Reach.{reached_self, reached_parents, reached_through}
 use Rattle.model.proofs.TwoWebs.{leader_block_found, votes_of_authors, voted_is_anchor}
 use Rattle.model.proofs.InOrder.{anchor_listed}
-use Rattle.model.proofs.Worlds.{Grown, Sound, always_sound, web_sound, good_member}
+use Rattle.model.proofs.Worlds.{Sound, always_sound, web_sound, good_member}
 use Rattle.model.proofs.Steps.{After, after_none, after_then, after_grown}
 use Rattle.model.proofs.Spread.{AllHave, spread}
 use Rattle.model.proofs.Rounds.{made_of, Parents, NextRound, next_round, Row, row, row_parents, no_parents}
@@ -265,8 +264,8 @@ module _ (f : ℕ) (small : f ≤ 4) (b : Book) (name_of : Block → ℕ) (named
       )
 
   -- steps that bring the made blocks into all good orders are what is asked for
-  Way-out : List Event → Type 0
-  Way-out es =
+  WayOut : List Event → Type 0
+  WayOut es =
       (es' : List Event) × After f b bad es es' × ((i : ℕ) → T (good f bad i) → Within (world f b bad es).made (order_of f b bad i es'))
 
   -- the round of a good leader that comes after round r
@@ -282,8 +281,8 @@ module _ (f : ℕ) (small : f ≤ 4) (b : Book) (name_of : Block → ℕ) (named
 
   -- from a level that has gathered what was made, on to a good leader's round and one more
   from_gathered :
-      (es es' : List Event) (r : ℕ) (all : List ℕ) → After f b bad es es' → Level f b bad r all es' → Within (world f b bad es).made all → Way-out es
-  unfolding Way-out
+      (es es' : List Event) (r : ℕ) (all : List ℕ) → After f b bad es es' → Level f b bad r all es' → Within (world f b bad es).made all → WayOut es
+  unfolding WayOut
   from_gathered es es' r all way l made =
       let turn = leaders_round r in
       let k = turn.0 in
@@ -295,7 +294,7 @@ module _ (f : ℕ) (small : f ≤ 4) (b : Book) (name_of : Block → ℕ) (named
         λ i g y t. ordered k all at.0 last.0 turn.2 at.2 last.1 last.2 last.3 i g y (made y t),
       )
 
-  from_level : (es es' : List Event) (r : ℕ) → After f b bad es es' → Level f b bad r [] es' → Way-out es
+  from_level : (es es' : List Event) (r : ℕ) → After f b bad es es' → Level f b bad r [] es' → WayOut es
   from_level es es' r way l =
       let sound = always_sound f b bad es' in
       let all =
@@ -307,13 +306,13 @@ module _ (f : ℕ) (small : f ≤ 4) (b : Book) (name_of : Block → ℕ) (named
       omega arith) in
       from_gathered es all.0 all.1 all.2 (after_then way all.3) all.4 all.5
 
-  way_out : (es : List Event) → Way-out es
+  way_out : (es : List Event) → WayOut es
   way_out es = let up = levelled es in from_level es up.0 up.1 up.2 up.3
 
   as_steps :
-      (es : List Event) → Way-out es →
+      (es : List Event) → WayOut es →
       (ds : List Event) × T (by_good f b bad ds) × ((i : ℕ) → T (good f bad i) → T (all_in (world f b bad es).made (order_of f b bad i (ds ++ es))))
-  unfolding Way-out
+  unfolding WayOut
   as_steps es (es', way, brings) = (
     way.steps,
     way.by_good_lem,

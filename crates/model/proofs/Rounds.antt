@@ -1,23 +1,22 @@
 -- A round of blocks made by all good members on given parents, and then brought into all good webs. Assumes that at most f members are bad, and
 -- that the book has a name for every block within the limits.
 use mathlib.Core.Path.{◌≡◌, refl, ap, sym, subst, ◌∙◌}
-use mathlib.Core.Bool.{Bool, true, false, cond, ◌&&◌, ◌||◌, not}
-use mathlib.Core.List.{List, [], ◌∷◌, ◌++◌}
+use mathlib.Core.Bool.{Bool, true, ◌&&◌, not}
+use mathlib.Core.List.{List, [], ◌∷◌}
 use mathlib.Core.Logic.{◌⊎◌, inl, inr, ⊎_elim}
-use Prim.Native.Nat.{ℕ, zero, suc, ◌+◌, ◌-◌, ◌*◌, ◌≤◌, ◌<◌}
+use Prim.Native.Nat.{ℕ, zero, suc, ◌+◌, ◌-◌, ◌≤◌, ◌<◌}
 use native.Mathlib.Omega.{arith}
-use lib.Dec.{T, eqb, ltb, leb, eqb→eq, eqb_refl, T_not, not_T, ltb→lt, lt→ltb, leb→le, le→leb}
+use lib.Dec.{T, eqb, ltb, leb, eqb_refl, T_not, lt→ltb, le→leb}
 use lib.ListN.{length}
 use Rattle.model.specs.Names.{is_in, all_in, different, distinct, all_below, union}
 use Rattle.model.specs.Thresholds.{members, quorum, Few}
-use Rattle.model.specs.Blocks.{Block, Book, valid, authors_at, within_limits, max_parents, max_load, byte_limit}
-use Rattle.model.specs.Member.{Member, makable}
-use Rattle.model.specs.World.{World, Event, Makes, member_at, good, world, web_of}
-use Rattle.model.proofs.Tools.{and_left, and_right, and_both, decided, same_or_not, cond_cases, eq→eqb}
-use Rattle.model.proofs.Lists.{In, Within, in_here, in_there, in_none, in_cons, all_in_lem, distinct_none, distinct_head, distinct_tail, distinct_cons, distinct_union, in_union, in_union_left, in_union_right}
+use Rattle.model.specs.Blocks.{Block, Book, valid, authors_at, within_limits, max_parents, max_load}
+use Rattle.model.specs.World.{Event, Makes, member_at, good, world, web_of}
+use Rattle.model.proofs.Tools.{and_both, decided, same_or_not, cond_cases, eq→eqb}
+use Rattle.model.proofs.Lists.{In, Within, in_here, in_there, in_none, in_cons, all_in_lem, distinct_none, distinct_head, distinct_tail, distinct_cons, distinct_union, in_union, in_union_right}
 use Rattle.model.proofs.Thresholds.{today, good_make_quorum, members-fit}
 use Rattle.model.proofs.Validity.{make_valid, in_authors}
-use Rattle.model.proofs.Worlds.{Grown, Sound, always_sound, good_member}
+use Rattle.model.proofs.Worlds.{always_sound, good_member}
 use Rattle.model.proofs.Steps.{After, after_none, after_then, after_grown, Maker, make_one}
 use Rattle.model.proofs.Spread.{numbers, in_numbers, numbers_below, AllHave, spread}
 

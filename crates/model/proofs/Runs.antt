@@ -1,14 +1,14 @@
 -- The promise isn't empty: a run after which blocks of all good members are ordered, one in which two bad members of four break the order, and a book that has a
 -- name for every block. Assumes nothing.
 use mathlib.Core.Path.{◌≡◌, refl, ap, sym, subst, ◌∙◌}
-use mathlib.Core.Bool.{Bool, cond, ◌&&◌, not}
+use mathlib.Core.Bool.{Bool, cond, not}
 use mathlib.Core.List.{List, [], ◌∷◌, ◌++◌, map, head-eq_of_cons-eq}
 use Prim.Native.Nat.{ℕ, zero, suc, ◌+◌, ◌-◌, ◌*◌, ◌/◌}
 use native.Mathlib.Omega.{arith}
 use lib.Dec.{T, eqb, ltb, ltb→lt}
 use Rattle.model.specs.Names.{is_in, all_in, distinct, different, union, without}
 use Rattle.model.specs.Thresholds.{members, quorum, needed_votes, bad_count}
-use Rattle.model.specs.Blocks.{Block, Book, authors_at, all_earlier, valid}
+use Rattle.model.specs.Blocks.{Book, authors_at, all_earlier, valid}
 use Rattle.model.specs.Reach.{parents_of, back, reached}
 use Rattle.model.specs.Order.{leader_block, votes_for, last_voted, last_round, anchors_to, anchors_of, insert, sorted, listed, order}
 use Rattle.model.specs.Member.{rival}

@@ -1,22 +1,22 @@
 -- Good members can bring all that they made, and all that any of them holds, into every good member's web, without making anything.
 -- Assumes that at most f members are bad.
-use mathlib.Core.Path.{◌≡◌, refl, ap, sym, subst, ◌∙◌}
-use mathlib.Core.Bool.{Bool, true, false, cond, ◌&&◌, ◌||◌, not}
-use mathlib.Core.List.{List, [], ◌∷◌, ◌++◌}
-use mathlib.Core.Logic.{◌⊎◌, inl, inr, ⊎_elim}
-use Prim.Native.Nat.{ℕ, zero, suc, ◌+◌, ◌-◌, ◌*◌, ◌≤◌, ◌<◌}
+use mathlib.Core.Path.{sym, subst}
+use mathlib.Core.Bool.{Bool, ◌&&◌, not}
+use mathlib.Core.List.{List, [], ◌∷◌}
+use mathlib.Core.Logic.{⊎_elim}
+use Prim.Native.Nat.{ℕ, zero, suc, ◌<◌}
 use native.Mathlib.Omega.{arith}
-use lib.Dec.{T, eqb, ltb, leb, eqb→eq, eqb_refl, T_not, not_T, ltb→lt, lt→ltb, leb→le, le→leb}
+use lib.Dec.{T, ltb, T_not, not_T, lt→ltb, le→leb}
 use Rattle.model.specs.Names.{is_in, all_in, different}
 use Rattle.model.specs.Thresholds.{members, quorum, Few}
-use Rattle.model.specs.Blocks.{Block, Book, valid}
-use Rattle.model.specs.Member.{Member, rival, signable, takable}
-use Rattle.model.specs.World.{World, Event, member_at, good, signers, certified, genuine, world, web_of}
-use Rattle.model.proofs.Tools.{and_left, and_right, and_both, or_cases, or_right, decided, same_or_not}
+use Rattle.model.specs.Blocks.{Book, valid}
+use Rattle.model.specs.Member.{rival, signable}
+use Rattle.model.specs.World.{Event, member_at, good, signers, certified, genuine, world, web_of}
+use Rattle.model.proofs.Tools.{and_right, and_both, or_cases, or_right, decided, same_or_not}
 use Rattle.model.proofs.Lists.{In, Within, in_here, in_there, in_none, in_cons, in_or_not, all_in_lem}
 use Rattle.model.proofs.Thresholds.{today, good_make_quorum}
-use Rattle.model.proofs.Worlds.{Grown, Sound, always_sound, Behind, stays_certified, certified_alone, rivals_none, good_member}
-use Rattle.model.proofs.Steps.{After, Quiet, Can, already, and_then, for_each, after_grown, quiet_then, sign_one, take_one}
+use Rattle.model.proofs.Worlds.{always_sound, Behind, stays_certified, certified_alone, rivals_none, good_member}
+use Rattle.model.proofs.Steps.{Can, already, and_then, for_each, after_grown, quiet_then, sign_one, take_one}
 
 -- ---- the numbers below n, so that something can be done for each member
 unfoldable pub numbers : ℕ → List ℕ

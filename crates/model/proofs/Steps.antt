@@ -1,22 +1,22 @@
 -- What steps of good members can bring about: one event at a time, and chains of them that leave rounds and made blocks as they are.
 -- Assumes nothing.
 use mathlib.Core.Path.{◌≡◌, refl, ap, sym, subst, ◌∙◌}
-use mathlib.Core.Bool.{Bool, true, false, cond, ◌&&◌, ◌||◌, not}
+use mathlib.Core.Bool.{Bool, true, ◌&&◌}
 use mathlib.Core.List.{List, [], ◌∷◌, ◌++◌, append_assoc}
-use mathlib.Core.Logic.{◌⊎◌, inl, inr, ⊎_elim}
-use Prim.Native.Nat.{ℕ, zero, suc, ◌+◌, ◌-◌, ◌*◌, ◌≤◌, ◌<◌}
+use mathlib.Core.Logic.{⊎_elim}
+use Prim.Native.Nat.{ℕ, suc}
 use native.Mathlib.Numerals.{add-one}
 use native.Mathlib.Omega.{arith}
 use lib.Dec.{T}
 use lib.ListN.{get_or}
 use lib.Seq.{get_or-set_other}
-use Rattle.model.specs.Blocks.{Block, Book, valid, within_limits}
-use Rattle.model.specs.Member.{Member, new_member, rival, signable, takable, makable, after_sign, after_take, after_make}
-use Rattle.model.specs.World.{Signature, World, Event, Makes, Signs, Takes, Forges, member_at, good, signers, certified, genuine, with_member, with_signature, with_made, step, world, web_of}
+use Rattle.model.specs.Blocks.{Book, within_limits}
+use Rattle.model.specs.Member.{Member, new_member, signable, takable, makable, after_sign, after_take, after_make}
+use Rattle.model.specs.World.{Event, Makes, Signs, Takes, Forges, member_at, good, signers, certified, genuine, with_member, world, web_of}
 use Rattle.model.specs.Promise.{by_good}
 use Rattle.model.proofs.Tools.{and_left, and_right, and_both, cond-then}
-use Rattle.model.proofs.Lists.{In, Within, in_here, in_there, in_none, in_cons}
-use Rattle.model.proofs.Worlds.{Grown, only_grows, Sound, always_sound, after_makes, after_signs, after_takes, changed_here, kept, signed_now, good_member}
+use Rattle.model.proofs.Lists.{In, in_here, in_there, in_none, in_cons}
+use Rattle.model.proofs.Worlds.{Grown, only_grows, always_sound, after_makes, after_signs, after_takes, changed_here, kept, signed_now, good_member}
 
 -- ---- chains of steps of good members
 pub by_good_append : (f : ℕ) (b : Book) (bad : ℕ → Bool) (xs ys : List Event) → T (by_good f b bad xs) → T (by_good f b bad ys) → T (by_good f b bad (xs ++ ys))

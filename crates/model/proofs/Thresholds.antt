@@ -6,7 +6,7 @@ use Prim.Native.Nat.{ℕ, ◌+◌, ◌≤◌, ◌<◌}
 use native.Mathlib.Omega.{arith}
 use lib.Dec.{T}
 use Rattle.model.specs.Names.{is_in, different}
-use Rattle.model.specs.Thresholds.{members, quorum, needed_votes, bad_count, Committee, Among, ThresholdLaws, ThresholdsHold}
+use Rattle.model.specs.Thresholds.{members, quorum, needed_votes, bad_count, Committee, Among, ThresholdsHold}
 use Rattle.model.specs.Blocks.{max_parents}
 use Rattle.model.proofs.Tools.{and_left, and_right}
 use Rattle.model.proofs.Lists.{In}

@@ -1,5 +1,5 @@
 -- Blocks, the book that tells which block a name stands for, and which blocks are valid. Assumes nothing.
-use Rattle.std.specs.Prelude.{Bool, true, false, cond, ◌&&◌, ◌||◌, List, [], ◌∷◌, ℕ, ◌-◌, eqb, ltb, leb, length}
+use Rattle.std.specs.Prelude.{Bool, true, cond, ◌&&◌, ◌||◌, List, [], ◌∷◌, ℕ, ◌-◌, eqb, ltb, leb, length}
 use Rattle.model.specs.Names.{distinct, different, all_below}
 use Rattle.model.specs.Thresholds.{members, quorum}
 

@@ -1,6 +1,6 @@
 -- Small cases, computed. In all but the last f = 1, members 0 to 3, a block's name is 4 times its round and its author, and a block has all blocks
 -- of the round before as parents unless said otherwise. Assumes nothing.
-use Rattle.std.specs.Prelude.{◌≡◌, Bool, true, false, cond, ◌||◌, List, [], ◌∷◌, ◌++◌, ℕ, zero, suc, ◌+◌, ◌-◌, ◌*◌, ◌/◌, ◌%◌, eqb, ltb}
+use Rattle.std.specs.Prelude.{◌≡◌, true, false, cond, ◌||◌, List, [], ◌∷◌, ◌++◌, ℕ, zero, suc, ◌+◌, ◌-◌, ◌*◌, ◌/◌, ◌%◌, eqb, ltb}
 use Rattle.model.specs.Blocks.{Block, Book, valid}
 use Rattle.model.specs.Order.{anchors_of, order}
 use Rattle.model.specs.Member.{Member, after_sign}

@@ -1,5 +1,5 @@
 -- What one member holds, what it may sign, take in and make, and what it holds afterwards. Assumes nothing.
-use Rattle.std.specs.Prelude.{Bool, true, false, cond, ◌&&◌, ◌||◌, not, List, [], ◌∷◌, ℕ, ◌+◌, eqb}
+use Rattle.std.specs.Prelude.{Bool, false, cond, ◌&&◌, ◌||◌, not, List, [], ◌∷◌, ℕ, ◌+◌, eqb}
 use Rattle.model.specs.Names.{is_in, all_in}
 use Rattle.model.specs.Blocks.{Book, valid}
 

@@ -1,5 +1,5 @@
 -- Every program numbers its blocks in its own way: that the numbers don't matter. Assumes nothing.
-use Rattle.std.specs.Prelude.{◌≡◌, Bool, List, map, ℕ, T}
+use Rattle.std.specs.Prelude.{◌≡◌, List, map, ℕ, T}
 use Rattle.model.specs.Names.{is_in, all_in}
 use Rattle.model.specs.Blocks.{Block, Book}
 use Rattle.model.specs.Order.{order}

@@ -1,8 +1,7 @@
 -- That the promise isn't empty: a run after which blocks of all good members are ordered, one in which too many bad members break it, and a book
 -- that has a name for every block. Assumes nothing.
-use Rattle.std.specs.Prelude.{◌≡◌, Bool, true, false, cond, ◌&&◌, ◌||◌, List, [], ◌∷◌, ◌++◌, ℕ, zero, suc, ◌+◌, ◌≤◌, T, eqb}
-use Rattle.model.specs.Names.{is_in}
-use Rattle.model.specs.Thresholds.{members, bad_count, Few}
+use Rattle.std.specs.Prelude.{◌≡◌, Bool, false, ◌||◌, List, [], ◌∷◌, ℕ, T, eqb}
+use Rattle.model.specs.Thresholds.{members, bad_count}
 use Rattle.model.specs.Blocks.{Block, Book}
 use Rattle.model.specs.World.{Event, good, order_of}
 use Rattle.model.specs.Promise.{Begins}

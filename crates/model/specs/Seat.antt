@@ -1,5 +1,5 @@
 -- The answers of a seat, one member's program, which has bounded room; what it asks of the web that it reads its order off. Assumes nothing.
-use Rattle.std.specs.Prelude.{Bool, true, false, cond, ◌&&◌, not, List, [], ◌∷◌, ℕ, zero, suc, ◌^◌, eqb, leb, length}
+use Rattle.std.specs.Prelude.{Bool, true, cond, ◌&&◌, not, List, [], ◌∷◌, ℕ, zero, suc, ◌^◌, eqb, leb, length}
 use Rattle.model.specs.Blocks.{Book, valid}
 use Rattle.model.specs.Member.{Member, rival, signable, takable, makable}
 

@@ -1,6 +1,6 @@
 -- A committee: its members, all signatures ever given, and events that come in any order, since the line between members brings anything,
 -- any time, twice, late or never. What may not happen changes nothing, so every list of events is a run. Assumes nothing.
-use Rattle.std.specs.Prelude.{Bool, true, false, cond, ◌&&◌, ◌||◌, not, List, [], ◌∷◌, ℕ, zero, suc, eqb, ltb, leb, get_or, set}
+use Rattle.std.specs.Prelude.{Bool, cond, ◌&&◌, ◌||◌, not, List, [], ◌∷◌, ℕ, zero, suc, eqb, ltb, leb, get_or, set}
 use Rattle.model.specs.Names.{is_in, different}
 use Rattle.model.specs.Thresholds.{members, quorum}
 use Rattle.model.specs.Blocks.{Book}

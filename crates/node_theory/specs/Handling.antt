@@ -1,36 +1,12 @@
 -- WHAT A PROGRAM DOES WITH A LINE: from the state before it to the state after it, with the answers in it. Assumes nothing.
-use Rattle.std.specs.Prelude.{ℕ, zero, suc, ◌-◌, ◌^◌, Bool, true, false, cond, not, ◌&&◌, ◌||◌, List, [], ◌∷◌, ◌++◌, map, length, drop, is_some, Some, None, Option, ◌==◌, nat_le, nat_lt, slice_index_or, slice_set}
+use Rattle.std.specs.Prelude.{ℕ, zero, suc, ◌-◌, Bool, false, cond, not, ◌&&◌, ◌||◌, List, [], ◌∷◌, ◌++◌, map, length, drop, is_some, Some, None, Option, ◌==◌, nat_le, nat_lt, slice_index_or, slice_set}
 use Rattle.std.specs.Str.{bytes_eq}
 use Rattle.model.specs.Thresholds.{members}
 use Rattle.model.specs.Blocks.{Block, Book}
 use Rattle.model.specs.Order.{order}
 use Rattle.model.specs.Seat.{round_limit}
 use Rattle.wire.specs.Messages.{WireBlock, Message, SaysBlock, SaysSigned, Asks, block_bytes, signed_bytes, message_bytes}
-use Rattle.node_theory.specs.State.{
-  Setting,
-  Entry,
-  Shelf,
-  Loose,
-  Held,
-  Out,
-  ToOne,
-  ToAll,
-  Ordered,
-  Refused,
-  State,
-  blank,
-  max_waiting,
-  max_loose,
-  max_loads,
-  with_loose,
-  with_waiting,
-  with_loads,
-  with_printed,
-  with_outs,
-  saying,
-  refuse,
-  stop,
-}
+use Rattle.node_theory.specs.State.{Setting, Shelf, Loose, Held, Out, ToOne, ToAll, Ordered, State, blank, max_waiting, max_loose, max_loads, with_loose, with_waiting, with_loads, with_printed, with_outs, saying, refuse, stop}
 use Rattle.node_theory.specs.Shelf.{
   book_in,
   entry_at,

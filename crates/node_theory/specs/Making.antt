@@ -1,14 +1,14 @@
 -- Giving a signature, and making the next block. Assumes nothing.
-use Rattle.std.specs.Prelude.{ℕ, zero, suc, ◌-◌, Bool, true, false, cond, not, ◌&&◌, ◌||◌, List, [], ◌∷◌, ◌++◌, map, length, take, drop, Some, None, Option, ◌==◌, nat_le, nat_lt, slice_index_or}
+use Rattle.std.specs.Prelude.{ℕ, ◌-◌, Bool, true, false, cond, not, ◌&&◌, ◌||◌, List, [], ◌∷◌, ◌++◌, length, take, drop, Some, None, Option, ◌==◌, nat_le, nat_lt, slice_index_or}
 use Rattle.model.specs.Names.{is_in, different}
 use Rattle.model.specs.Thresholds.{quorum}
 use Rattle.model.specs.Blocks.{Block, Book, authors_at, max_parents}
-use Rattle.model.specs.Member.{Member, after_sign, after_make}
+use Rattle.model.specs.Member.{after_sign, after_make}
 use Rattle.model.specs.Seat.{done, sign_answer, make_answer}
 use Rattle.book.specs.Content.{max_blocks}
 use Rattle.book.specs.Meeting.{block_of}
 use Rattle.wire.specs.Messages.{WireBlock, SaysBlock, block_bytes, signed_bytes, message_bytes}
-use Rattle.node_theory.specs.State.{Setting, State, Out, ToAll, with_seat, with_made, with_loads, with_said, saying, refuse, stop}
+use Rattle.node_theory.specs.State.{Setting, State, ToAll, with_seat, with_made, with_loads, with_said, saying, refuse, stop}
 use Rattle.node_theory.specs.Shelf.{book_in, entry_at, hash_at, wire_of, Look, Known, Fresh, Clash, look, put_in, keeping, signature_message}
 
 -- ---- giving a signature

@@ -1,5 +1,5 @@
 -- Dealing with blocks, taking in, and what follows from it until nothing is left to do. Assumes nothing.
-use Rattle.std.specs.Prelude.{ℕ, zero, suc, ◌+◌, Bool, true, false, cond, not, ◌&&◌, ◌||◌, List, [], ◌∷◌, ◌++◌, length, is_some, Some, None, Option, ◌==◌, nat_lt, slice_index_or}
+use Rattle.std.specs.Prelude.{ℕ, zero, suc, Bool, true, cond, not, ◌&&◌, List, [], length, is_some, Some, None, Option, ◌==◌, nat_lt, slice_index_or}
 use Rattle.std.specs.List.{remove}
 use Rattle.model.specs.Blocks.{Block, valid}
 use Rattle.model.specs.Member.{after_take}
@@ -7,7 +7,7 @@ use Rattle.model.specs.Seat.{done, sign_answer, take_answer}
 use Rattle.book.specs.Content.{max_blocks}
 use Rattle.book.specs.Meeting.{block_of}
 use Rattle.wire.specs.Messages.{WireBlock}
-use Rattle.node_theory.specs.State.{Setting, Held, State, with_shelf, with_seat, with_waiting, refuse, stop, max_waiting}
+use Rattle.node_theory.specs.State.{Setting, Held, State, with_shelf, with_seat, with_waiting, refuse, stop}
 use Rattle.node_theory.specs.Shelf.{book_in, entry_at, names_for, Look, Known, Fresh, Clash, look, put_in, certified_in, all_taken, entry_taken, with_entry}
 use Rattle.node_theory.specs.Making.{signed_in, making}
 

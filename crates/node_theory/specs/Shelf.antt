@@ -1,10 +1,10 @@
 -- The book by hashes: finding blocks, putting them in, and the signatures that are kept of them. Assumes nothing.
-use Rattle.std.specs.Prelude.{ℕ, zero, suc, Bool, true, false, cond, not, ◌&&◌, ◌||◌, List, [], ◌∷◌, ◌++◌, map, length, get_or, is_some, Some, None, Option, ◌==◌, nat_le, slice_index_or, slice_set}
+use Rattle.std.specs.Prelude.{ℕ, zero, suc, Bool, true, false, cond, ◌&&◌, ◌||◌, List, [], ◌∷◌, ◌++◌, map, length, get_or, is_some, Some, None, Option, ◌==◌, nat_le, slice_index_or, slice_set}
 use Rattle.std.specs.Str.{bytes_eq}
 use Rattle.model.specs.Thresholds.{quorum}
 use Rattle.model.specs.Blocks.{Block, Book}
-use Rattle.book.specs.Content.{book_of, empty_block}
-use Rattle.wire.specs.Messages.{WireBlock, Message, SaysBlock, SaysSigned, message_bytes}
+use Rattle.book.specs.Content.{book_of}
+use Rattle.wire.specs.Messages.{WireBlock, SaysBlock, SaysSigned, message_bytes}
 use Rattle.node_theory.specs.State.{Setting, Entry, Shelf, Loose, State, with_shelf, with_loose}
 
 -- what a name that isn't in the book has beside it

@@ -3,7 +3,7 @@ use Rattle.std.specs.Prelude.{ℕ, zero, suc, Bool, true, false, List, [], ◌�
 use Rattle.model.specs.Thresholds.{members}
 use Rattle.model.specs.Blocks.{Block}
 use Rattle.model.specs.Member.{Member, new_member}
-use Rattle.wire.specs.Messages.{WireBlock, Message}
+use Rattle.wire.specs.Messages.{WireBlock}
 
 -- What never changes: at most f members are bad; me is the program's own number; right tells whether a member's signature of a message is right;
 -- signs what the program signs a message by, after all that it has signed before, if its keys aren't used up; digest names bytes.

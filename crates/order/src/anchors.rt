@@ -157,8 +157,8 @@ fn hand_on_row<B: Library>(book: &B, members: usize, names: &[u32], row: usize, 
 // The leader's block, at that place, is the next anchor if the anchor found last reaches it.
 fn test_leader(marks: &mut [u32], place: usize, anchors: u32) -> u32
     requires { anchors ≤ 2 ^ 31 }
-    ensures anchors { result ≡ (leader_tested place (record { marks = marks.entry.now; anchors = anchors })).anchors }
-    ensures marks { marks.exit.now ≡ (leader_tested place (record { marks = marks.entry.now; anchors = anchors })).marks }
+    ensures anchors { result ≡ (leader_tested place (record { marks = marks.old; anchors = anchors })).anchors }
+    ensures marks { marks.new ≡ (leader_tested place (record { marks = marks.old; anchors = anchors })).marks }
 {
     if at(marks, place) == anchors + 1 {
         put(marks, place, anchors + 2);
@@ -179,9 +179,9 @@ fn one_row<B: Library>(
 ) -> u32
     requires { (members ≤ 13) × ((0 < members) × ((round < 2 ^ 32) × (anchors ≤ 2 ^ 31))) }
     ensures anchors { result ≡ (one_row members (B.Library.what book.now) names.now round
-        (record { marks = marks.entry.now; anchors = anchors })).anchors }
-    ensures marks { marks.exit.now ≡ (one_row members (B.Library.what book.now) names.now round
-        (record { marks = marks.entry.now; anchors = anchors })).marks }
+        (record { marks = marks.old; anchors = anchors })).anchors }
+    ensures marks { marks.new ≡ (one_row members (B.Library.what book.now) names.now round
+        (record { marks = marks.old; anchors = anchors })).marks }
     ensures small { result ≤ anchors + 1 - round % 2 }
 {
     let row = row_of(members, round);
@@ -204,9 +204,9 @@ fn go_back<B: Library>(
 ) -> u32
     requires { (members ≤ 13) × ((0 < members) × (rounds ≤ 2 ^ 32)) }
     ensures anchors { result ≡ (went_back members (B.Library.what book.now) names.now rounds
-        (record { marks = marks.entry.now; anchors = 0 })).anchors }
-    ensures marks { marks.exit.now ≡ (went_back members (B.Library.what book.now) names.now rounds
-        (record { marks = marks.entry.now; anchors = 0 })).marks }
+        (record { marks = marks.old; anchors = 0 })).anchors }
+    ensures marks { marks.new ≡ (went_back members (B.Library.what book.now) names.now rounds
+        (record { marks = marks.old; anchors = 0 })).marks }
 {
     let mut anchors = 0;
     for round in (0..rounds).rev() {

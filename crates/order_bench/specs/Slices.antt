@@ -1,5 +1,5 @@
 -- A book in two slices: a small entry for each block, and all parents one after another. Assumes nothing.
-use Rattle.std.specs.Prelude.{List, [], ℕ, ◌+◌, ◌-◌, get_or, drop}
+use Rattle.std.specs.Prelude.{List, [], ℕ, get_or, drop}
 use Rattle.model.specs.Blocks.{Block, Book}
 use Rattle.model.specs.Seat.{padded}
 use Rattle.order_bench.specs.declared.Entry.{Entry}

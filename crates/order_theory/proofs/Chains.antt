@@ -1,10 +1,9 @@
 -- The links: from each mark a chain through the places that have it, rising; and what is written by following a chain. Assumes nothing.
-use Rattle.std.proofs.Common.{◌≡◌, ℕ, zero, suc, ◌+◌, ◌-◌, ◌*◌, ◌<◌, ◌≤◌, Bool, true, false, cond, not, T, eqb, ltb, ◌⊎◌, List, [], ◌∷◌, ◌++◌, length, get_or, set, sym, refl, ap, ◌∙◌, subst, inl, inr, ⊎_elim, append_assoc, append-nil, arith, eqb→eq, ltb→lt, lt→ltb, nltb→le, T_not, length-append, length-set, get_or-set_other, get_or-set_same}
-use lib.Dec.{not_T}
+use Rattle.std.proofs.Common.{◌≡◌, ℕ, zero, suc, ◌+◌, ◌-◌, ◌<◌, ◌≤◌, eqb, ltb, List, [], ◌∷◌, ◌++◌, length, get_or, set, sym, refl, ap, ◌∙◌, subst, ⊎_elim, append_assoc, append-nil, arith, ltb→lt, nltb→le, length-append, length-set, get_or-set_other, get_or-set_same}
 use lib.ListN.{get_or-eq_default}
 use Rattle.model.specs.Seat.{padded}
 use Rattle.model.proofs.Tools.{cond_cases, cond-else, not_eqb, same_or_not}
-use Rattle.model.proofs.Lists.{In, Within, in_none, in_here, in_there, in_cons}
+use Rattle.model.proofs.Lists.{In, in_none, in_here, in_there, in_cons}
 use Rattle.order_theory.specs.Tables.{Links, linked, all_linked, Written, chain_written}
 use Rattle.order_theory.proofs.Steps.{chain-none, written_is}
 use Rattle.order_theory.proofs.Rising.{Rises}

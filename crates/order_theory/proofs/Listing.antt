@@ -1,18 +1,17 @@
 -- What is written mark by mark is the list of the definition; and so the whole: the steps on tables write the order. Assumes nothing.
-use Rattle.std.proofs.Common.{◌≡◌, ℕ, zero, suc, ◌+◌, ◌-◌, ◌*◌, ◌/◌, ◌<◌, ◌≤◌, Bool, true, false, cond, not, T, ◌⊎◌, List, [], ◌∷◌, ◌++◌, length, get_or, sym, refl, ap, ◌∙◌, subst, inl, inr, ⊎_elim, zero-mul, arith, length-append}
+use Rattle.std.proofs.Common.{◌≡◌, ℕ, suc, ◌+◌, ◌-◌, ◌*◌, ◌<◌, ◌≤◌, T, List, [], ◌∷◌, ◌++◌, length, get_or, sym, refl, ap, ◌∙◌, subst, ⊎_elim, zero-mul, arith, length-append}
 use Rattle.model.specs.Names.{distinct, without}
 use Rattle.model.specs.Thresholds.{members}
 use Rattle.model.specs.Blocks.{Book}
 use Rattle.model.specs.Reach.{reached}
 use Rattle.model.specs.Order.{sorted, listed}
-use Rattle.model.specs.Seat.{padded}
 use Rattle.model.proofs.Lists.{In, Within, in_none, in_here, in_there, in_cons, in_or_not, in_append, in_append_left, in_append_right}
-use Rattle.model.proofs.Lists.{in_without, without_in, distinct_without, distinct_append, distinct_none, distinct-different, different_within}
+use Rattle.model.proofs.Lists.{in_without, without_in, distinct_without, distinct_append, distinct-different, different_within}
 use Rattle.model.proofs.Webs.{SoundWeb}
 use Rattle.model.proofs.Reach.{reached_within, reached-distinct}
 use Rattle.model.proofs.InOrder.{in_sorted, sorted_in}
-use Rattle.order_theory.specs.Tables.{place_of, Links, Written, chain_written, all_written}
-use Rattle.order_theory.proofs.Places.{place_alone, Tabled}
+use Rattle.order_theory.specs.Tables.{place_of, Links, all_written}
+use Rattle.order_theory.proofs.Places.{Tabled}
 use Rattle.order_theory.proofs.Marks.{Right, Own, Sunk, reached_marked}
 use Rattle.order_theory.proofs.Rising.{Rises, rising_same, rising_distinct, sorted_rises}
 use Rattle.order_theory.proofs.Chains.{Group, Groups, names_at, names_at_length, wrote, chain_wrote}

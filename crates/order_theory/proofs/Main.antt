@@ -1,21 +1,21 @@
 -- THE RESULT: the steps on tables write the order of the definition, and say how long it is. Assumes nothing.
-use Rattle.std.proofs.Common.{◌≡◌, ℕ, zero, suc, ◌+◌, ◌-◌, ◌*◌, ◌/◌, ◌<◌, ◌≤◌, T, ◌⊎◌, List, [], ◌∷◌, length, get_or, replicate, Some, None, Option, sym, refl, ap, ◌∙◌, subst, inl, inr, ⊎_elim, arith}
+use Rattle.std.proofs.Common.{◌≡◌, ℕ, zero, suc, ◌+◌, ◌*◌, ◌/◌, ◌<◌, ◌≤◌, T, List, [], ◌∷◌, length, get_or, Some, None, Option, sym, refl, ap, ◌∙◌, ⊎_elim, arith}
 use lib.ListN.{length-replicate}
 use Rattle.model.specs.Names.{distinct}
-use Rattle.model.specs.Thresholds.{members, quorum}
+use Rattle.model.specs.Thresholds.{members}
 use Rattle.model.specs.Blocks.{Book}
-use Rattle.model.specs.Order.{Sought, Missing, Found, leader_block, last_voted, last_round, anchors_to, anchors_from, anchors_of, listed, order}
+use Rattle.model.specs.Order.{Sought, Missing, Found, last_round, anchors_to, anchors_from, anchors_of, listed, order}
 use Rattle.model.specs.Promise.{whole_all}
 use Rattle.model.specs.Seat.{fit, padded}
 use Rattle.model.proofs.Lists.{In, in_none, distinct_none}
 use Rattle.model.proofs.Webs.{SoundWeb}
-use Rattle.order_theory.specs.Tables.{place_of, names_of, marks_of, last_voted_at, Marked, Links, Written, all_linked, all_written}
+use Rattle.order_theory.specs.Tables.{place_of, names_of, marks_of, last_voted_at, Marked, Written, all_linked, all_written}
 use Rattle.order_theory.specs.Tables.{marked_from, written_by, steps_on, StepsWriteOrder}
 use Rattle.order_theory.proofs.Sound.{sound_web, rounds_few, rows_fit}
 use Rattle.order_theory.proofs.Places.{place_before, Tabled, noughts, noughts_at, less_or_not, entered, entered_low, marks_length}
 use Rattle.order_theory.proofs.Votes.{Matches, last_same, leader_place_lem}
-use Rattle.order_theory.proofs.Marks.{Sunk, Found-all, marked_from_lem, anchors_few}
-use Rattle.order_theory.proofs.Chains.{Groups, all_linked_lem, wrote}
+use Rattle.order_theory.proofs.Marks.{FoundAll, marked_from_lem, anchors_few}
+use Rattle.order_theory.proofs.Chains.{all_linked_lem, wrote}
 use Rattle.order_theory.proofs.Steps.{written_is}
 use Rattle.order_theory.proofs.Listing.{all_listed}
 
@@ -39,7 +39,7 @@ module _ {f : ℕ} {b : Book} {web : List ℕ} (sound : SoundWeb f b web) (few :
 
   -- from the marks and the number of anchors, the order is written
   written_from_lem :
-      (all names : List ℕ) (t : Marked) (heads nexts : List ℕ) → Found-all sound names all t → length all < 2049 → length heads ≡ 2050 →
+      (all names : List ℕ) (t : Marked) (heads nexts : List ℕ) → FoundAll sound names all t → length all < 2049 → length heads ≡ 2050 →
       ((m : ℕ) → get_or heads m 0 ≡ 0) → length nexts ≡ 6400 →
       all_written names (all_linked t.marks (length t.marks) (record { heads = heads; nexts = nexts })) t.anchors (wrote [])
       ≡ wrote (listed b [] all)

@@ -1,21 +1,20 @@
 -- Going back from the last anchor by marks: the anchors found are those of the definition, and in the end a block has an anchor's mark, or a
 -- higher one, exactly if that anchor reaches it. Assumes nothing.
-use Rattle.std.proofs.Common.{◌≡◌, ℕ, zero, suc, ◌+◌, ◌-◌, ◌*◌, ◌/◌, ◌%◌, ◌<◌, ◌≤◌, Bool, true, false, cond, not, ◌&&◌, T, eqb, ltb, ◌⊎◌, List, [], ◌∷◌, ◌++◌, length, get_or, set, sym, refl, ap, ◌∙◌, subst, inl, inr, ⊎_elim, append_assoc, append-nil, suc-mul, zero-mul, arith, eqb→eq, ltb→lt, lt→ltb, nltb→le, T_not, length-append, length-set, get_or-set_same}
+use Rattle.std.proofs.Common.{◌≡◌, ℕ, zero, suc, ◌+◌, ◌*◌, ◌/◌, ◌%◌, ◌<◌, ◌≤◌, cond, eqb, ltb, ◌⊎◌, List, [], ◌∷◌, ◌++◌, length, get_or, set, sym, refl, ap, ◌∙◌, subst, inl, inr, ⊎_elim, append_assoc, append-nil, suc-mul, zero-mul, arith, eqb→eq, ltb→lt, nltb→le, T_not, length-append, length-set, get_or-set_same}
 use lib.Dec.{not_T}
 use Rattle.model.specs.Names.{is_in}
 use Rattle.model.specs.Thresholds.{members}
 use Rattle.model.specs.Blocks.{Book}
 use Rattle.model.specs.Reach.{reached}
 use Rattle.model.specs.Order.{Sought, Missing, Found, leader_block, anchors_to}
-use Rattle.model.proofs.Tools.{decided, cond_cases, cond-then, cond-else, eq→eqb, not_eqb, same_or_not}
-use Rattle.model.proofs.Lists.{In, Within, in_none, in_here, in_there, in_cons, in_or_not}
-use Rattle.model.proofs.Thresholds.{today, member_some}
+use Rattle.model.proofs.Tools.{cond_cases, cond-then, cond-else, eq→eqb, not_eqb, same_or_not}
+use Rattle.model.proofs.Lists.{In, in_none, in_here, in_there, in_cons}
 use Rattle.model.proofs.Validity.{valid_earlier}
 use Rattle.model.proofs.Webs.{SoundWeb}
 use Rattle.model.proofs.Reach.{reached_self, reached_all, reached_parents}
 use Rattle.order_theory.specs.Tables.{place_of, leader_place, raised, raised_all, handed_on, row_handed_on}
 use Rattle.order_theory.specs.Tables.{Marked, leader_tested, one_row, went_back, marked_from}
-use Rattle.order_theory.proofs.Places.{place_is, place_alone, place_before, place_from, Tabled, less_or_not, set_either}
+use Rattle.order_theory.proofs.Places.{place_alone, place_before, place_from, Tabled, set_either}
 use Rattle.order_theory.proofs.Votes.{leader_there, leader_place_lem}
 
 -- ---- marks raised to m at the places of a list of blocks
@@ -424,12 +423,12 @@ module _ {f : ℕ} {b : Book} {web : List ℕ} (sound : SoundWeb f b web) (names
       (row_back ((2 * k + 1) * members f) (suc (2 * k + 1) * members f) (suc k) all t (row_end (2 * k + 1)) back)
 
   -- the end: all anchors, and all blocks have handed on their marks
-  pub record Found-all (all : List ℕ) (t : Marked) : Type 0 where
+  pub record FoundAll (all : List ℕ) (t : Marked) : Type 0 where
     pub sunk : Sunk 0 all t.marks
     pub count : t.anchors ≡ length all
 
   -- with 2 k rows left
-  went_back_lem : (k : ℕ) (all : List ℕ) (t : Marked) → Back (2 * k * members f) k all t → Found-all all (went_back (members f) b names (2 * k) t)
+  went_back_lem : (k : ℕ) (all : List ℕ) (t : Marked) → Back (2 * k * members f) k all t → FoundAll all (went_back (members f) b names (2 * k) t)
   unfolding went_back
   went_back_lem zero all t back =
       let e : 2 * 0 * members f ≡ 0 = zero-mul (members f) in
@@ -444,14 +443,14 @@ module _ {f : ℕ} {b : Book} {web : List ℕ} (sound : SoundWeb f b web) (names
       let odd = one_row (members f) b names (2 * k + 1) t in
       let one = odd_back k all t (subst (λ (r : ℕ). Back (r * members f) (suc k) all t) e back) in
       let two = even_back k all odd (subst (λ (r : ℕ). Back (r * members f) (suc k) all odd) d one) in
-      subst (λ (r : ℕ). Found-all all (went_back (members f) b names r t)) (sym e)
-      (subst (λ (r : ℕ). Found-all all (went_back (members f) b names r odd)) (sym d) (went_back_lem k all (one_row (members f) b names (2 * k) odd) two))
+      subst (λ (r : ℕ). FoundAll all (went_back (members f) b names r t)) (sym e)
+      (subst (λ (r : ℕ). FoundAll all (went_back (members f) b names r odd)) (sym d) (went_back_lem k all (one_row (members f) b names (2 * k) odd) two))
 
   -- From round 2 k, whose leader's block is the last anchor, one comes to all anchors.
   pub marked_from_lem :
       (k x : ℕ) (marks : List ℕ) → Tabled (members f) b web names marks → ((y : ℕ) → In y web → place y < length marks) →
       ((s : ℕ) → get_or marks s 0 ≤ 1) → leader_block f b (2 * k) web ≡ Found x →
-      Found-all (anchors_to f b web k x) (marked_from (members f) b k names marks)
+      FoundAll (anchors_to f b web k x) (marked_from (members f) b k names marks)
   unfolding went_back
   marked_from_lem k x marks tabled room low e =
       let n = members f in
@@ -487,5 +486,5 @@ module _ {f : ℕ} {b : Book} {web : List ℕ} (sound : SoundWeb f b web) (names
       even_row k t
       ∙ ap {B = Marked} (λ v. record { marks = row_handed_on n b names (2 * k * n) n v.marks; anchors = v.anchors }) hit in
       let d : 2 * k + 1 ≡ suc (2 * k) = omega arith in
-      subst (λ (j : ℕ). Found-all all (went_back n b names j t)) (sym d)
+      subst (λ (j : ℕ). FoundAll all (went_back n b names j t)) (sym d)
       (went_back_lem k all (one_row n b names (2 * k) t) (subst (Back (2 * k * n) k all) (sym same) row))

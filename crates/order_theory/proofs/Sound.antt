@@ -1,7 +1,7 @@
 -- What is asked of a web makes it sound; and a round has a quorum of blocks in each round before it, so that few places are enough for a web's
 -- blocks. Assumes nothing.
-use Rattle.std.proofs.Common.{◌≡◌, ℕ, zero, suc, ◌+◌, ◌-◌, ◌*◌, ◌<◌, ◌≤◌, Bool, true, false, cond, not, ◌&&◌, ◌||◌, T, eqb, ltb, ◌⊎◌, List, [], ◌∷◌, length, sym, refl, ap, ◌∙◌, subst, inl, inr, ⊎_elim, suc-mul, zero-mul, arith, eqb→eq, T_not}
-use Rattle.model.specs.Names.{is_in, all_in, distinct, different, union}
+use Rattle.std.proofs.Common.{◌≡◌, ℕ, zero, suc, ◌+◌, ◌-◌, ◌*◌, ◌<◌, ◌≤◌, not, ◌&&◌, T, eqb, ltb, List, [], ◌∷◌, length, sym, refl, ap, ◌∙◌, subst, ⊎_elim, suc-mul, zero-mul, arith, eqb→eq, T_not}
+use Rattle.model.specs.Names.{all_in, distinct, union}
 use Rattle.model.specs.Thresholds.{members, quorum}
 use Rattle.model.specs.Blocks.{Book, valid, authors_at}
 use Rattle.model.specs.Reach.{parents_of, back, reached}
@@ -9,12 +9,11 @@ use Rattle.model.specs.Member.{rival}
 use Rattle.model.specs.Promise.{whole_all}
 use Rattle.model.specs.Seat.{fit}
 use Rattle.model.proofs.Tools.{and_left, and_right, and_both, or_left, or_right, eq→eqb, not_eqb, same_or_not, cond_cases}
-use Rattle.model.proofs.Lists.{In, Within, in_none, in_here, in_there, in_cons, in_all}
+use Rattle.model.proofs.Lists.{In, Within, in_none, in_cons, in_all}
 use Rattle.model.proofs.Lists.{in_union_left, in_union_right, different≤length, different_within}
-use Rattle.model.proofs.Validity.{valid_earlier, valid_author, authors_in, authors_within}
+use Rattle.model.proofs.Validity.{valid_earlier, authors_within}
 use Rattle.model.proofs.Webs.{SoundWeb}
-use Rattle.model.proofs.Reach.{reached-quorum, reached_within, reached_all}
-use Rattle.order_theory.specs.Tables.{place_of}
+use Rattle.model.proofs.Reach.{reached-quorum, reached_within}
 
 -- ---- a sound web
 back_keeps : (b : Book) (n : ℕ) (xs : List ℕ) → Within xs (back b n xs)

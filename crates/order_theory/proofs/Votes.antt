@@ -1,5 +1,5 @@
 -- The leader's block and its votes, found by their places, are those of the definition; so is the last anchor. Assumes nothing.
-use Rattle.std.proofs.Common.{◌≡◌, ℕ, zero, suc, ◌+◌, ◌-◌, ◌*◌, ◌/◌, ◌%◌, ◌<◌, ◌≤◌, Bool, true, false, cond, not, ◌&&◌, T, eqb, ltb, leb, ◌⊎◌, List, [], ◌∷◌, length, get_or, Some, None, Option, sym, refl, ap, ◌∙◌, subst, inl, inr, ⊎_elim, mod-lt, add-mul, one-mul, arith, le→leb, eqb→eq, ltb→lt, lt→ltb, leb→le, T_not}
+use Rattle.std.proofs.Common.{◌≡◌, ℕ, zero, suc, ◌+◌, ◌*◌, ◌/◌, ◌%◌, ◌<◌, ◌≤◌, Bool, true, false, cond, ◌&&◌, T, eqb, ltb, leb, List, [], ◌∷◌, length, get_or, Some, None, Option, sym, refl, ap, ◌∙◌, subst, ⊎_elim, mod-lt, add-mul, one-mul, arith, le→leb, eqb→eq, ltb→lt, lt→ltb, leb→le, T_not}
 use lib.Dec.{not_T}
 use Rattle.model.specs.Names.{is_in, distinct}
 use Rattle.model.specs.Thresholds.{members, needed_votes}
@@ -7,14 +7,14 @@ use Rattle.model.specs.Blocks.{Book}
 use Rattle.model.specs.Order.{Sought, Missing, Found, leader, leader_block, votes_for, has_votes, last_voted}
 use Rattle.model.proofs.Tools.{and_left, and_right, and_both, is_true, is_false, same_test, eq→eqb, same_or_not}
 use Rattle.model.proofs.Tools.{cond_cases, cond-from, cond-under}
-use Rattle.model.proofs.Lists.{In, Within, in_none, in_here, in_there, in_cons}
+use Rattle.model.proofs.Lists.{In, in_none, in_here, in_there, in_cons}
 use Rattle.model.proofs.Lists.{distinct_none, distinct_cons, distinct_head, distinct_tail, distinct-different, different_within}
 use Rattle.model.proofs.Thresholds.{today, member_some}
 use Rattle.model.proofs.Validity.{valid_author}
 use Rattle.model.proofs.Webs.{SoundWeb}
 use Rattle.model.proofs.TwoWebs.{leader_block_is, leader_block_found}
 use Rattle.order_theory.specs.Tables.{place_of, votes_at, votes_in, row_of, leader_place, voted_at, last_voted_at}
-use Rattle.order_theory.proofs.Places.{place_is, place_alone, Tabled, less_or_not}
+use Rattle.order_theory.proofs.Places.{place_is, Tabled, less_or_not}
 
 -- ---- the blocks of a row that have x as a parent
 row_voters : Book → ℕ → List ℕ → List ℕ → ℕ → ℕ → List ℕ

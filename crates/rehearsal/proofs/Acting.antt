@@ -1,37 +1,18 @@
 -- That a committee holds the world of the events, after each step of a member. Assumes nothing.
-use Rattle.std.proofs.Common.{◌≡◌, ℕ, ◌+◌, ◌<◌, ◌≤◌, Bool, true, false, cond, not, ◌&&◌, ◌||◌, T, ltb, leb, List, [], ◌∷◌, map, length, get_or, set, vec_items, sym, refl, ap, ◌∙◌, subst, ap₂, subst₂, arith, ltb→lt, lt→ltb}
+use Rattle.std.proofs.Common.{◌≡◌, ℕ, ◌<◌, ◌≤◌, Bool, true, false, not, ◌&&◌, T, ltb, List, ◌∷◌, length, get_or, set, vec_items, sym, refl, ap, ◌∙◌, subst, ap₂, subst₂, arith, ltb→lt, lt→ltb}
 use lib.Dec.{nleb→lt}
 use Rattle.std.proofs.lemmas.Bool.{lt-ltb}
 use Rattle.book.specs.declared.book.Book.{Book as TheBook}
-use Rattle.book.specs.Books.{blocks}
 use Rattle.book.specs.Content.{book_of}
 use Rattle.members.specs.Sets.{Holds}
-use Rattle.model.specs.Names.{is_in}
 use Rattle.model.specs.Thresholds.{members}
-use Rattle.model.specs.Blocks.{Block, Book, max_parents}
+use Rattle.model.specs.Blocks.{Block}
 use Rattle.model.specs.Member.{Member, new_member, signable, takable, makable, after_sign, after_take, after_make}
 use Rattle.model.specs.Seat.{full_signed, full_web, full_round, seat_limit}
-use Rattle.model.specs.World.{
-  World,
-  Signature,
-  Event,
-  Makes as makes,
-  Signs as signs,
-  Takes as takes,
-  Forges as forges,
-  member_at,
-  good,
-  genuine,
-  certified,
-  world,
-  with_member,
-  with_signature,
-  with_made,
-}
-use Rattle.model.proofs.Tools.{and_left, and_right, and_both, is_true, cond-then}
+use Rattle.model.specs.World.{World, Event, Forges as forges, member_at, good, genuine, certified, world, with_member, with_signature, with_made}
+use Rattle.model.proofs.Tools.{and_left, and_both, cond-then}
 use Rattle.model.proofs.Thresholds.{members-fit}
 use Rattle.model.proofs.Worlds.{always_sound, changed}
-use Rattle.replica.specs.declared.replica.Replica.{Replica}
 use Rattle.rehearsal.specs.declared.act.Act.{Act}
 use Rattle.rehearsal.specs.declared.act.Act.TheVariants.{Makes, Signs, Takes, Forges}
 use Rattle.rehearsal.specs.declared.committee.Committee.{Committee}

@@ -1,32 +1,13 @@
 -- That a world doesn't change when its book grows: it rests only on the blocks whose names its events speak of, and on what these build on.
 -- Assumes nothing.
-use Rattle.std.proofs.Common.{◌≡◌, ℕ, ◌-◌, ◌<◌, ◌≤◌, Bool, true, false, cond, not, ◌&&◌, ◌||◌, T, eqb, ltb, leb, List, [], ◌∷◌, ◌++◌, sym, refl, ap, ◌∙◌, subst, ap₂, ⊎_elim, arith, eqb→eq, ltb→lt, lt→ltb}
+use Rattle.std.proofs.Common.{◌≡◌, ℕ, ◌-◌, ◌<◌, ◌≤◌, Bool, cond, not, ◌&&◌, ◌||◌, T, eqb, ltb, leb, List, [], ◌∷◌, sym, refl, ap, ◌∙◌, subst, ap₂, arith, ltb→lt, lt→ltb}
 use Rattle.model.specs.Names.{is_in, all_in, distinct, different, all_below}
 use Rattle.model.specs.Thresholds.{members, quorum}
 use Rattle.model.specs.Blocks.{Block, Book, authors_at, all_earlier, valid}
-use Rattle.model.specs.Member.{Member, new_member, rival, signable, takable, makable, after_sign, after_take, after_make}
-use Rattle.model.specs.World.{
-  Event,
-  Makes,
-  Signs,
-  Takes,
-  Forges,
-  World,
-  member_at,
-  good,
-  genuine,
-  certified,
-  signers,
-  step,
-  start,
-  world,
-  new_members,
-  with_member,
-  with_signature,
-  with_made,
-}
+use Rattle.model.specs.Member.{Member, rival, signable, takable, makable, after_sign, after_take, after_make}
+use Rattle.model.specs.World.{Event, Makes, Signs, Takes, Forges, World, member_at, good, genuine, certified, signers, step, start, world, with_member, with_signature, with_made}
 use Rattle.model.proofs.Tools.{and_left, and_right, and_both, cond_cases, cond-else, not_eqb}
-use Rattle.model.proofs.Worlds.{changed, kept, new_at}
+use Rattle.model.proofs.Worlds.{changed, new_at}
 use Rattle.rehearsal.specs.Books.{name_of, about_below, SameBelow}
 
 below_head : (n x : ℕ) (xs : List ℕ) → T (all_below n (x ∷ xs)) → x < n

@@ -1,5 +1,5 @@
 -- That a word for a load means one load, and what follows for a block that a line describes. Assumes nothing.
-use Rattle.std.proofs.Common.{◌≡◌, ℕ, Bool, true, false, ◌⊎◌, List, [], length, codes, sym, refl, ap, ◌∙◌, subst, inl, inr, ⊎_elim, arith}
+use Rattle.std.proofs.Common.{◌≡◌, ℕ, Bool, true, false, List, codes, sym, ◌∙◌, subst, ⊎_elim, arith}
 use Rattle.book.specs.declared.book.Book.{Book as TheBook}
 use Rattle.book.specs.Memory.{Lent}
 use Rattle.book.specs.Meeting.{block_of}

@@ -1,5 +1,5 @@
 -- That the notes have what happened to each block, as it happens. Assumes nothing.
-use Rattle.std.proofs.Common.{◌≡◌, ℕ, ◌+◌, ◌<◌, ◌≤◌, Bool, true, false, cond, ◌||◌, T, eqb, List, [], ◌∷◌, ◌++◌, length, get_or, set, Ok, Err, Result, sym, refl, ap, ◌∙◌, subst, ⊎_elim, arith, eqb→eq}
+use Rattle.std.proofs.Common.{◌≡◌, ℕ, ◌<◌, ◌≤◌, true, ◌||◌, eqb, List, [], ◌∷◌, ◌++◌, length, get_or, set, Ok, Err, Result, sym, ap, ◌∙◌, subst, ⊎_elim, arith}
 use lib.Dec.{eqb_refl}
 use Rattle.std.proofs.lemmas.List.{get_or-set_same, get_or-set_other, get_or_default, get_or_past, get_or_push, get_or_append_left, length_push}
 use Rattle.std.proofs.lemmas.Bool.{cases_eq, cases_lt}
@@ -8,7 +8,7 @@ use Rattle.members.specs.declared.NumberTooLarge.{NumberTooLarge}
 use Rattle.members.specs.Sets.{Holds, Adds}
 use Rattle.model.specs.Names.{is_in}
 use Rattle.model.specs.World.{Signature, signers}
-use Rattle.model.proofs.Tools.{is_true, is_false, cond_cases, cond-then, cond-else, not_eqb}
+use Rattle.model.proofs.Tools.{is_true, is_false, cond-then, cond-else, not_eqb}
 use Rattle.rehearsal.specs.declared.notes.Note.{Note}
 use Rattle.rehearsal.specs.Noted.{no_note, Noted}
 

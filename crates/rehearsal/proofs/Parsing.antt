@@ -1,5 +1,5 @@
 -- Words taken off one by one. Assumes nothing.
-use Rattle.std.proofs.Common.{◌≡◌, ℕ, ◌^◌, ◌<◌, ◌≤◌, List, [], ◌∷◌, sym, refl, ap, ◌∙◌, subst, arith}
+use Rattle.std.proofs.Common.{◌≡◌, ℕ, ◌^◌, ◌≤◌, List, ◌∷◌, sym, subst, arith}
 use Rattle.lines.specs.Numbers.{Writes}
 use Rattle.rehearsal.specs.Saying.{Reads}
 

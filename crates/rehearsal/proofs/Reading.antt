@@ -1,5 +1,5 @@
 -- That what a member's seat is asked for is there, and that what it reads off its web has the main promise. Assumes nothing.
-use Rattle.std.proofs.Common.{◌≡◌, ℕ, zero, suc, ◌+◌, ◌-◌, ◌<◌, ◌≤◌, min, Bool, true, false, cond, not, ◌&&◌, T, ltb, ◌⊎◌, List, [], ◌∷◌, ◌++◌, map, length, get_or, take, Some, None, vec_items, Option, sym, refl, ap, ◌∙◌, subst, ap₂, subst₂, inl, inr, ⊎_elim, arith, ltb→lt, T_not}
+use Rattle.std.proofs.Common.{◌≡◌, ℕ, zero, suc, ◌-◌, ◌<◌, ◌≤◌, min, Bool, true, false, not, ◌&&◌, T, ltb, ◌⊎◌, List, [], ◌∷◌, ◌++◌, length, get_or, take, Some, None, vec_items, sym, refl, ap, ◌∙◌, subst, ap₂, subst₂, ⊎_elim, arith, ltb→lt, T_not}
 use Rattle.std.proofs.lemmas.List.{map-id, get_or_append_left, length-append, get_or-map, take_all}
 use Rattle.std.proofs.lemmas.Bool.{cases_lt}
 use Rattle.replica.specs.declared.replica.Replica.{Replica}
@@ -13,8 +13,7 @@ use Rattle.model.specs.Member.{Member, new_member, rival}
 use Rattle.model.specs.Seat.{fit, padded, seat_limit}
 use Rattle.model.specs.World.{World, Event, member_at, good, world, web_of, order_of}
 use Rattle.model.specs.Promise.{Begins}
-use Rattle.model.specs.Renaming.{rename_parents}
-use Rattle.model.proofs.Tools.{and_left, and_right, and_both, decided, is_true, is_false}
+use Rattle.model.proofs.Tools.{and_left, and_right, and_both, decided}
 use Rattle.model.proofs.Lists.{In, in_here, in_there, distinct_tail, all_in_lem, in_below, different_within, distinct-different, different≤length}
 use Rattle.model.proofs.Counting.{count_bad, count≤different}
 use Rattle.model.proofs.InOrder.{order_in_web, order-distinct}
@@ -22,7 +21,7 @@ use Rattle.model.proofs.Worlds.{always_sound, rival_is, web_sound}
 use Rattle.model.proofs.Safety.{webs_whole, orders_agree, orders_grow, nothing_twice, nothing_forged}
 use Rattle.model.proofs.Renaming.{names_dont_matter}
 use Rattle.rehearsal.specs.declared.committee.Committee.{Committee}
-use Rattle.rehearsal.specs.Books.{about_below, SameBelow}
+use Rattle.rehearsal.specs.Books.{about_below}
 use Rattle.rehearsal.specs.Seated.{member_of, Readable}
 use Rattle.rehearsal.specs.Scenes.{Scene, is_bad, book_in, world_in}
 use Rattle.rehearsal.specs.Played.{Plays}

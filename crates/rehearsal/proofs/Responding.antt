@@ -1,5 +1,5 @@
 -- After every line the committee plays what was said until then. Assumes nothing.
-use Rattle.std.proofs.Common.{◌≡◌, ℕ, Bool, true, false, cond, ◌⊎◌, List, Some, None, Option, ⊎_elim}
+use Rattle.std.proofs.Common.{ℕ, Bool, true, false, List, Some, None, Option, ⊎_elim}
 use Rattle.book.specs.declared.book.Book.{Book as TheBook}
 use Rattle.book.specs.Memory.{Lent}
 use Rattle.rehearsal.specs.declared.act.Act.{Act}
@@ -7,8 +7,8 @@ use Rattle.rehearsal.specs.declared.committee.Committee.{Committee}
 use Rattle.rehearsal.specs.declared.script.Reply.{Reply}
 use Rattle.rehearsal.specs.Words.{name_in}
 use Rattle.rehearsal.specs.Saying.{Said, Block, Step, Bad, Order, Described}
-use Rattle.rehearsal.specs.Scenes.{Scene, with_bad}
-use Rattle.rehearsal.specs.Played.{Plays, Played, Stepped}
+use Rattle.rehearsal.specs.Scenes.{Scene}
+use Rattle.rehearsal.specs.Played.{Played, Stepped}
 use Rattle.rehearsal.specs.Answering.{Introduced, Heeds, Responds}
 
 introduced_played : (l : Lent) (s : Scene) (d : Described) (done : Bool) (b : TheBook) (c : Committee) → Introduced l s d done b c → Played b c

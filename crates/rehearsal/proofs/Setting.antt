@@ -1,5 +1,5 @@
 -- That a committee holds the world of what was said: at the start, when a member is said to be bad, and when the book grows. Assumes nothing.
-use Rattle.std.proofs.Common.{◌≡◌, ℕ, suc, ◌+◌, ◌<◌, ◌≤◌, Bool, true, false, cond, not, ◌&&◌, ◌||◌, T, eqb, ltb, leb, ◌⊎◌, List, [], ◌∷◌, ◌++◌, map, length, get_or, set, is_some, Some, None, vec_items, Option, sym, refl, ap, ◌∙◌, subst, ap₂, subst₂, ⊎_elim, zero-le, arith, le→leb, ltb→lt, lt→ltb, leb→le}
+use Rattle.std.proofs.Common.{◌≡◌, ℕ, ◌+◌, ◌<◌, ◌≤◌, Bool, true, false, cond, ◌&&◌, ◌||◌, T, ltb, leb, List, [], ◌∷◌, ◌++◌, map, length, get_or, is_some, Some, None, vec_items, Option, sym, refl, ap, ◌∙◌, subst, ap₂, subst₂, ⊎_elim, zero-le, arith, le→leb, ltb→lt, lt→ltb}
 use Rattle.std.proofs.lemmas.List.{get_or_append_left, length_push, map_push}
 use Rattle.std.proofs.lemmas.Bool.{lt-ltb}
 use Rattle.book.specs.declared.book.Book.{Book as TheBook}
@@ -7,16 +7,16 @@ use Rattle.book.specs.Books.{blocks}
 use Rattle.book.specs.Content.{book_of, ParentsBefore, empty_block}
 use Rattle.book.specs.Memory.{Lent}
 use Rattle.book.specs.Meeting.{Met}
-use Rattle.members.specs.Sets.{Holds, Adds}
+use Rattle.members.specs.Sets.{Holds}
 use Rattle.model.specs.Names.{is_in, different, all_below}
 use Rattle.model.specs.Thresholds.{members}
-use Rattle.model.specs.Blocks.{Block, Book}
+use Rattle.model.specs.Blocks.{Block}
 use Rattle.model.specs.Member.{Member}
 use Rattle.model.specs.Seat.{seat_limit}
 use Rattle.model.proofs.Worlds.{new_at}
-use Rattle.model.specs.World.{World, Event, member_at, world, start, new_members, signers}
-use Rattle.model.proofs.Tools.{and_left, and_right, and_both, is_true, is_false, decided, cond-then, cond-else}
-use Rattle.model.proofs.Lists.{different_in, different_new, different-none, below_in, in_below, in_append, in_single, in_here, in_there}
+use Rattle.model.specs.World.{World, Event, member_at, world, new_members, signers}
+use Rattle.model.proofs.Tools.{and_left, and_right, and_both, is_true}
+use Rattle.model.proofs.Lists.{different_in, different_new, below_in, in_below, in_append, in_single, in_here, in_there}
 use Rattle.std.specs.Str.{bytes_eq}
 use Rattle.rehearsal.specs.declared.act.Act.{Act}
 use Rattle.rehearsal.specs.declared.notes.Note.{Note}
@@ -28,7 +28,7 @@ use Rattle.rehearsal.specs.Words.{Naming, name_in}
 use Rattle.rehearsal.specs.Glossaries.{namings}
 use Rattle.rehearsal.specs.Seated.{Sit}
 use Rattle.rehearsal.specs.Noted.{no_note, Noted}
-use Rattle.rehearsal.specs.Scenes.{Scene, is_bad, book_in, world_in, opening, may_be_bad, with_bad, with_blocks, with_word}
+use Rattle.rehearsal.specs.Scenes.{Scene, is_bad, book_in, world_in, opening, with_bad, with_blocks, with_word}
 use Rattle.rehearsal.specs.Played.{Plays, Acted, Stepped, SaidBad}
 use Rattle.rehearsal.proofs.Growing.{world_same}
 

@@ -1,7 +1,6 @@
 -- Looking words up, one by one. Assumes nothing.
-use Rattle.std.proofs.Common.{◌≡◌, ℕ, ◌+◌, ◌<◌, ◌≤◌, min, Bool, true, false, cond, eqb, List, [], ◌∷◌, ◌++◌, map, length, get_or, take, drop, Some, None, Option, sym, refl, ap, ◌∙◌, subst, ap₂, append_assoc, append-nil, arith}
+use Rattle.std.proofs.Common.{◌≡◌, ℕ, ◌+◌, ◌<◌, ◌≤◌, min, Bool, true, false, cond, List, [], ◌∷◌, ◌++◌, map, length, get_or, take, drop, Some, None, Option, sym, refl, ap, ◌∙◌, ap₂, append_assoc, append-nil, arith}
 use Rattle.std.proofs.lemmas.List.{drop_more, drop_all, map_push, map_more, length-map, length-take}
-use Rattle.std.specs.Option.{option_map}
 use Rattle.std.proofs.lemmas.Bool.{cond-true, cond-false, eq-eqb, ne_eqb}
 use Rattle.std.specs.Str.{bytes_eq}
 use Rattle.lines.specs.Words.{space, none, joined}
@@ -84,7 +83,7 @@ names_start ns texts done e = go (names_in texts ns) ∙ ap (λ l. behind l (nam
 
 pub names_end : (ns : List Naming) (texts rest : List (List ℕ)) (done : List ℕ) → rest ≡ [] → names_in texts ns ≡ behind done (names_in rest ns) → names_in texts ns ≡ Some done
 unfolding names_in behind
-names_end ns texts rest done e inv = inv ∙ ap (λ l. behind done (names_in l ns)) e ∙ ap Some (append-nil done)
+names_end ns texts left_over done e inv = inv ∙ ap (λ l. behind done (names_in l ns)) e ∙ ap Some (append-nil done)
 
 -- ---- words on one line
 none_push : (ws : List (List ℕ)) (w : List ℕ) → none (ws ++ (w ∷ [])) ≡ false

@@ -1,5 +1,5 @@
 -- What a member's order is, and what is promised of it. Assumes nothing.
-use Rattle.std.specs.Prelude.{◌≡◌, ℕ, ◌<◌, true, false, T, ◌⊎◌, List, [], ◌++◌, length, Some, None, Option, nat_lt}
+use Rattle.std.specs.Prelude.{◌≡◌, ℕ, true, false, T, ◌⊎◌, List, [], ◌++◌, length, Some, None, Option, nat_lt}
 use Rattle.model.specs.Names.{is_in, distinct}
 use Rattle.model.specs.Thresholds.{members}
 use Rattle.model.specs.Blocks.{Block}

@@ -5,7 +5,7 @@ use Rattle.book.specs.Content.{book_of}
 use Rattle.model.specs.Names.{is_in, different}
 use Rattle.model.specs.Thresholds.{members}
 use Rattle.model.specs.Blocks.{Block, Book}
-use Rattle.model.specs.Member.{Member, signable, takable, makable}
+use Rattle.model.specs.Member.{signable, takable, makable}
 use Rattle.model.specs.Seat.{full_signed, full_web, full_round}
 use Rattle.model.specs.World.{World, Event, Makes as makes, Signs as signs, Takes as takes, Forges as forges, member_at, good, genuine, certified, world}
 use Rattle.rehearsal.specs.declared.act.Act.{Act}

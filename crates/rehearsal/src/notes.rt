@@ -1,5 +1,5 @@
 // What happened to the blocks: who signed each, and whether its author really made it.
-ghost use Rattle.std.specs.Prelude.{◌≡◌, ℕ, ◌+◌, ◌<◌, List, [], ◌∷◌, length, get_or, OnOk, ◌==◌, slice_index_or};
+ghost use Rattle.std.specs.Prelude.{◌≡◌, ℕ, ◌+◌, ◌<◌, List, [], ◌∷◌, length, OnOk, ◌==◌, slice_index_or};
 ghost use Rattle.model.specs.World.{Signature};
 ghost use Rattle.rehearsal.specs.Noted.{no_note, Noted};
 
@@ -71,14 +71,14 @@ impl Notes {
 
     /// Who signed a block.
     pub fn signers(&self, name: u32) -> MemberSet
-        ensures { result ≡ (get_or self.now.notes.items name no_note).signers }
+        ensures { result ≡ (slice_index_or self.now.notes.items name no_note).signers }
     {
         self.note(name).signers
     }
 
     /// Whether a good member made a block.
     pub fn is_made(&self, name: u32) -> bool
-        ensures { result ≡ (get_or self.now.notes.items name no_note).made }
+        ensures { result ≡ (slice_index_or self.now.notes.items name no_note).made }
     {
         self.note(name).made
     }

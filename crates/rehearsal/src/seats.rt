@@ -1,5 +1,5 @@
 // The seats of a committee.
-ghost use Rattle.std.specs.Prelude.{◌≡◌, ◌<◌, ◌≤◌, List, length, get_or, is_some, IfOk, Some, None, slice_index_or};
+ghost use Rattle.std.specs.Prelude.{◌≡◌, ◌<◌, ◌≤◌, List, length, is_some, IfOk, Some, None, slice_index_or};
 ghost use Rattle.model.specs.Member.{Member, new_member, signable, takable, makable, after_sign, after_take, after_make};
 ghost use Rattle.model.specs.Order.{order};
 ghost use Rattle.model.specs.Seat.{full_signed, full_web, full_round, padded};
@@ -33,7 +33,7 @@ impl Seats {
     pub fn make<B: Library>(&mut self, member: u32, book: &B, f: u32, name: u32) -> bool
         requires { f ≤ 4 }
         ensures { (ms : List Member) → Sit ms self.old.seats.items →
-            Steps ms member (makable f (what book.now) member name (slice_index_or ms member new_member)) (full_round (slice_index_or ms member new_member))
+            Steps ms member (makable f (B.what book.now) member name (slice_index_or ms member new_member)) (full_round (slice_index_or ms member new_member))
             (after_make (slice_index_or ms member new_member)) result self.new.seats.items }
     {
         let Some(seat) = self.seats.get_mut(member as usize) else {
@@ -53,7 +53,7 @@ impl Seats {
     ) -> Option<LeaveToSign>
         requires { f ≤ 4 }
         ensures steps { (ms : List Member) → Sit ms self.old.seats.items →
-            Steps ms member (signable f (what book.now) genuine name (slice_index_or ms member new_member)) (full_signed (slice_index_or ms member new_member))
+            Steps ms member (signable f (B.what book.now) genuine name (slice_index_or ms member new_member)) (full_signed (slice_index_or ms member new_member))
             (after_sign name (slice_index_or ms member new_member)) (is_some result) self.new.seats.items }
         ensures leave { (ms : List Member) → Sit ms self.old.seats.items →
             elim result [ Some leave ↦ (leave.number ≡ member) × (leave.name ≡ name) | None ↦ Unit {0} ] }
@@ -71,7 +71,7 @@ impl Seats {
     /// A member takes a block in, if it may and has room.
     pub fn take<B: Library>(&mut self, member: u32, book: &B, name: u32, certified: bool) -> bool
         ensures { (ms : List Member) → Sit ms self.old.seats.items →
-            Steps ms member (takable (what book.now) certified name (slice_index_or ms member new_member)) (full_web (slice_index_or ms member new_member))
+            Steps ms member (takable (B.what book.now) certified name (slice_index_or ms member new_member)) (full_web (slice_index_or ms member new_member))
             (after_take name (slice_index_or ms member new_member)) result self.new.seats.items }
     {
         let Some(seat) = self.seats.get_mut(member as usize) else {
@@ -84,11 +84,11 @@ impl Seats {
     pub fn order<B: Library>(&self, member: u32, book: &B, f: u32, out: &mut [u32; 4096]) -> u32
         requires few { f ≤ 4 }
         requires fits { (d : Replica) → member < length self.now.seats.items →
-            Readable f (what book.now) (member_of (slice_index_or self.now.seats.items member d)) }
+            Readable f (B.what book.now) (member_of (slice_index_or self.now.seats.items member d)) }
         ensures count { (ms : List Member) → Sit ms self.now.seats.items → member < length ms →
-            result ≡ length (order f (what book.now) (get_or ms member new_member).web) }
+            result ≡ length (order f (B.what book.now) (slice_index_or ms member new_member).web) }
         ensures listed { (ms : List Member) → Sit ms self.now.seats.items → member < length ms →
-            out.new ≡ padded 4096 (order f (what book.now) (get_or ms member new_member).web) }
+            out.new ≡ padded 4096 (order f (B.what book.now) (slice_index_or ms member new_member).web) }
     {
         match self.seats.get(member as usize) {
             Some(seat) => seat.order(book, f, out),

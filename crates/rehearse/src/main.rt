@@ -29,11 +29,11 @@ A line that may not happen, or that is none of these, prints no and changes noth
 /// The committee that a number asks for.
 fn committee(text: &str) -> anyhow::Result<Faults> {
     let Some(f) = number(text.as_bytes()) else {
-        return Err(USAGE.into());
+        return Err(anyhow!(USAGE));
     };
     match Faults::new(f) {
         Ok(faults) => Ok(faults),
-        Err(_) => Err(USAGE.into()),
+        Err(_) => Err(anyhow!(USAGE)),
     }
 }
 
@@ -49,10 +49,10 @@ fn run(rt: &HostRuntime) -> anyhow::Result<()> {
             rt.print(HELP)?;
             return Ok(());
         }
-        return Err(USAGE.into());
+        return Err(anyhow!(USAGE));
     };
     if args.next().is_some() {
-        return Err(USAGE.into());
+        return Err(anyhow!(USAGE));
     }
     let faults = committee(first.as_str())?;
     if script.as_str() == "-" {
@@ -61,7 +61,7 @@ fn run(rt: &HostRuntime) -> anyhow::Result<()> {
     }
     match File::open(rt, script.as_str()) {
         Ok(file) => play(rt, faults, file)?,
-        Err(_) => return Err(anyhow!(format!(in rt.alloc(); "the script {script} can't be read")?)),
+        Err(_) => return Err(anyhow!("the script {script} can't be read")),
     }
     Ok(())
 }

@@ -2,6 +2,7 @@
 // what it prints. Its stored run holds the cases of the protocol.
 #![tactic(auto)]
 
+use anyhow::anyhow;
 use lines::numbers::number;
 use members::Faults;
 use rehearsal::play;
@@ -12,11 +13,11 @@ const USAGE: &str = "usage: rehearse_cases F SCRIPT F SCRIPT ..";
 
 fn committee(text: &str) -> anyhow::Result<Faults> {
     let Some(f) = number(text.as_bytes()) else {
-        return Err(USAGE.into());
+        return Err(anyhow!(USAGE));
     };
     match Faults::new(f) {
         Ok(faults) => Ok(faults),
-        Err(_) => Err(USAGE.into()),
+        Err(_) => Err(anyhow!(USAGE)),
     }
 }
 
@@ -28,7 +29,7 @@ fn run(rt: &HostRuntime) -> anyhow::Result<()> {
             break;
         };
         let Some(script) = args.next() else {
-            return Err(USAGE.into());
+            return Err(anyhow!(USAGE));
         };
         let faults = committee(first.as_str())?;
         println!(rt; "# {script}")?;

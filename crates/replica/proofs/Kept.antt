@@ -1,16 +1,16 @@
 -- A web that is taken in from certified blocks stays as reading the order asks, also where the book grows. Assumes nothing beyond what the
 -- statements say.
-use Rattle.std.proofs.Common.{◌≡◌, ℕ, zero, suc, ◌+◌, ◌-◌, ◌<◌, ◌≤◌, Bool, true, false, cond, not, ◌&&◌, ◌||◌, T, eqb, ltb, ◌⊎◌, List, [], ◌∷◌, length, sym, refl, ap, ◌∙◌, subst, ⊎_elim, arith, T_not}
+use Rattle.std.proofs.Common.{◌≡◌, ℕ, zero, suc, ◌-◌, ◌<◌, ◌≤◌, Bool, true, false, not, ◌&&◌, T, List, [], ◌∷◌, length, sym, refl, subst, ⊎_elim, arith, T_not}
 use lib.Dec.{nleb→lt}
 use Rattle.model.specs.Names.{is_in, all_in, distinct, different, union}
-use Rattle.model.specs.Thresholds.{members, quorum}
+use Rattle.model.specs.Thresholds.{quorum}
 use Rattle.model.specs.Blocks.{Book, Block, authors_at, valid}
 use Rattle.model.specs.Reach.{parents_of, back, reached}
 use Rattle.model.specs.Member.{Member, new_member, rival, signable, takable, makable, after_sign, after_take, after_make}
 use Rattle.model.specs.Seat.{seat_limit, answer, after, full_signed, full_web, full_round, fit}
 use Rattle.model.specs.Promise.{whole_all}
 use Rattle.model.proofs.Tools.{and_left, and_right, and_both}
-use Rattle.model.proofs.Lists.{In, Within, in_none, in_here, in_there, in_cons, in_all, all_in_lem, in_union_left, in_union_right, distinct_none, distinct_cons}
+use Rattle.model.proofs.Lists.{In, Within, in_none, in_here, in_there, in_cons, in_all, in_union_left, distinct_cons}
 use Rattle.model.proofs.Reach.{back_keeps}
 use Rattle.model.proofs.Safety.{whole}
 use Rattle.model.proofs.Validity.{valid_author, valid-distinct, valid_earlier, valid-quorum, make_valid}

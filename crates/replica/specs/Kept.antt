@@ -1,5 +1,5 @@
 -- What a seat's web keeps: all that reading an order off it asks. Stated over the steps of a seat, and over whole runs of calls. Assumes nothing.
-use Rattle.std.specs.Prelude.{◌≡◌, ℕ, ◌≤◌, Bool, T, List, [], ◌∷◌, length}
+use Rattle.std.specs.Prelude.{◌≡◌, ℕ, ◌≤◌, Bool, T, length}
 use Rattle.model.specs.Names.{is_in, distinct}
 use Rattle.model.specs.Blocks.{Book, valid}
 use Rattle.model.specs.Member.{Member, new_member, signable, takable, makable, after_sign, after_take, after_make}

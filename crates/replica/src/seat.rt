@@ -40,7 +40,7 @@ pub trait Seat {
         genuine: bool,
     ) -> Answer<LeaveToSign>
         requires { f ≤ 4 }
-        ensures answers { number_of result ≡ answer (signable f (what book.now) genuine name (me self.old))
+        ensures answers { number_of result ≡ answer (signable f (B.Library.what book.now) genuine name (me self.old))
             (full_signed (me self.old)) }
         ensures leaves { LeaveFor (number self.old) name result }
         ensures holds { me self.new ≡ after (number_of result) (after_sign name (me self.old)) (me self.old) }
@@ -48,7 +48,7 @@ pub trait Seat {
 
     /// To take in a block; `certified` says whether a quorum of members signed it.
     fn take<B: Library>(&mut self, book: &B, name: u32, certified: bool) -> Answer<()>
-        ensures answers { number_of result ≡ answer (takable (what book.now) certified name (me self.old))
+        ensures answers { number_of result ≡ answer (takable (B.Library.what book.now) certified name (me self.old))
             (full_web (me self.old)) }
         ensures holds { me self.new ≡ after (number_of result) (after_take name (me self.old)) (me self.old) }
         ensures number { number self.new ≡ number self.old };
@@ -56,7 +56,7 @@ pub trait Seat {
     /// To make a block, of the member's next round.
     fn make<B: Library>(&mut self, book: &B, f: u32, name: u32) -> Answer<()>
         requires { f ≤ 4 }
-        ensures answers { number_of result ≡ answer (makable f (what book.now) (number self.old) name (me self.old))
+        ensures answers { number_of result ≡ answer (makable f (B.Library.what book.now) (number self.old) name (me self.old))
             (full_round (me self.old)) }
         ensures holds { me self.new ≡ after (number_of result) (after_make (me self.old)) (me self.old) }
         ensures number { number self.new ≡ number self.old };
@@ -64,11 +64,11 @@ pub trait Seat {
     /// The order that the member reads off its web: how long it is, and in `out` its names with noughts behind them. The book has to be the
     /// one by which the web was taken in, or what that has grown to.
     fn order<B: Library>(&self, book: &B, f: u32, out: &mut [u32; 4096]) -> u32
-        requires whole { T (whole_all (what book.now) (me self.now).web (me self.now).web) }
+        requires whole { T (whole_all (B.Library.what book.now) (me self.now).web (me self.now).web) }
         requires once { T (distinct (me self.now).web) }
-        requires fits { T (fit f (what book.now) (me self.now).web) }
+        requires fits { T (fit f (B.Library.what book.now) (me self.now).web) }
         requires few { f ≤ 4 }
         requires room { length (me self.now).web ≤ seat_limit }
-        ensures count { result ≡ length (order f (what book.now) (me self.now).web) }
-        ensures listed { out.new ≡ padded 4096 (order f (what book.now) (me self.now).web) };
+        ensures count { result ≡ length (order f (B.Library.what book.now) (me self.now).web) }
+        ensures listed { out.new ≡ padded 4096 (order f (B.Library.what book.now) (me self.now).web) };
 }

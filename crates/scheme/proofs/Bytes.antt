@@ -1,7 +1,7 @@
 -- `same` is equality of lists, found byte by byte with the differences kept; `is_in` is kept where a list grows at its front.
 -- Assumes nothing.
 
-use Rattle.std.proofs.Common.{◌≡◌, ℕ, ◌+◌, ◌<◌, Bool, true, false, ◌&&◌, ◌||◌, T, eqb, List, [], ◌∷◌, ◌++◌, length, get_or, drop, sym, refl, ap, ◌∙◌, subst, ⊎_elim, add-one, arith, eqb→eq, drop-cons}
+use Rattle.std.proofs.Common.{◌≡◌, ℕ, ◌+◌, ◌<◌, Bool, true, false, ◌&&◌, T, eqb, List, [], ◌∷◌, ◌++◌, length, get_or, drop, sym, refl, ap, ◌∙◌, subst, ⊎_elim, add-one, arith, eqb→eq, drop-cons}
 use mathlib.Core.Bool.{or-true, and-true}
 use lib.Dec.{eqb_refl}
 use lib.Seq.{drop-length}

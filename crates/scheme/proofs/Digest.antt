@@ -1,7 +1,7 @@
 -- A digest of SHA3-512 has 64 bytes: they are the first of the 200 that a state of 25 lanes gives.
 -- Assumes nothing.
 
-use Rattle.std.proofs.Common.{◌≡◌, ℕ, zero, suc, ◌*◌, ◌/◌, ◌≤◌, List, [], ◌∷◌, ◌++◌, length, take, refl, ap, ◌∙◌, append-nil, arith, length-take-le}
+use Rattle.std.proofs.Common.{◌≡◌, ℕ, zero, suc, ◌*◌, ◌/◌, List, [], ◌∷◌, ◌++◌, length, take, refl, ap, ◌∙◌, append-nil, arith, length-take-le}
 use Rattle.sha3.specs.Keccak.{keccak_round, rounds, keccak}
 use Rattle.sha3.specs.Sponge.{bytes_of, absorb, blocks, squeezed, sponge, padded, zeros, sha3_suffix, sha3_512}
 

@@ -1,7 +1,7 @@
 -- A line of a text, found by going on to its line feed: what is known before a place, at the feed, and at the text's end.
 -- Assumes nothing.
 
-use Rattle.std.proofs.Common.{◌≡◌, ℕ, suc, ◌+◌, ◌-◌, ◌<◌, ◌≤◌, eqb, List, [], ◌∷◌, ◌++◌, length, get_or, take, drop, sym, refl, ap, ◌∙◌, append_assoc, append-nil, le_refl, add-one, arith, length-drop, take_all, drop-cons, take-suc}
+use Rattle.std.proofs.Common.{◌≡◌, ℕ, ◌+◌, ◌-◌, ◌<◌, List, [], ◌∷◌, ◌++◌, length, get_or, take, drop, sym, ap, ◌∙◌, append_assoc, append-nil, le_refl, add-one, arith, length-drop, take_all, drop-cons, take-suc}
 use lib.Seq.{take-length, drop-length}
 use Rattle.std.proofs.lemmas.Bool.{eq-eqb, ne_eqb}
 use Rattle.scheme.specs.Keys.{first_line, after_line}

@@ -1,11 +1,11 @@
 -- What is written is read back, and nothing else is read: the laws of a file KEYS.
 -- Assumes nothing.
 
-use Rattle.std.proofs.Common.{◌≡◌, ℕ, zero, suc, ◌+◌, ◌-◌, ◌*◌, ◌/◌, ◌%◌, ◌<◌, ◌≤◌, Bool, true, false, cond, ◌&&◌, eqb, ltb, leb, ◌⊎◌, List, [], ◌∷◌, ◌++◌, length, Some, None, Ok, Err, Option, Result, sym, refl, ap, ◌∙◌, subst, inl, inr, ⊎_elim, arith, length-append}
+use Rattle.std.proofs.Common.{◌≡◌, ℕ, zero, suc, ◌+◌, ◌-◌, ◌*◌, ◌/◌, ◌%◌, ◌<◌, ◌≤◌, true, false, ◌&&◌, eqb, ltb, leb, ◌⊎◌, List, [], ◌∷◌, ◌++◌, length, Some, None, Ok, Err, Option, Result, sym, refl, ap, ◌∙◌, subst, inl, inr, ⊎_elim, arith, length-append}
 use Rattle.std.proofs.lemmas.Bool.{cases_Bool, cases_lt, and_from, and_parts, and_right, cond-true, cond-false, cond_both, leb-true, le-leb, lt-leb, lt-ltb, le-ltb, eq-eqb, eqb-true, ne_eqb}
 use Rattle.scheme.specs.declared.keys.KeysError.{KeysError}
 use Rattle.scheme.specs.Keys.{digit_of, joined, unhex, secret_of, first_line, after_line, on_line, parsed}
-use Rattle.scheme.specs.Written.{digit_for, hex, written, unended, AreBytes, AreSecrets, Reads-back, Reads-back-unended, Only-written}
+use Rattle.scheme.specs.Written.{digit_for, hex, written, unended, AreBytes, AreSecrets, ReadsBack, ReadsBackUnended, OnlyWritten}
 use Rattle.scheme.proofs.Committee.{parsed_line}
 
 some_inj : {A : Type 0} (a b : A) → Some a ≡ Some b → a ≡ b
@@ -206,13 +206,13 @@ last_line k n s long a =
     ∙ ap (λ o. on_line k o (parsed (k + 1) n (after_line (hex s)))) (secret_back s long a)
     ∙ ap (λ r. on_line k (Some s) (parsed (k + 1) n r)) (after_line_last (hex s) clean)
 
-pub reads_back : Reads-back
+pub reads_back : ReadsBack
 unfolding parsed written AreSecrets
 reads_back k [] a = refl
 reads_back k (s ∷ ss) a =
     ended_line k (length ss) s (written ss) a.0.0 a.0.1 ∙ ap (on_line k (Some s)) (reads_back (k + 1) ss a.1)
 
-pub reads_back_unended : Reads-back-unended
+pub reads_back_unended : ReadsBackUnended
 unfolding parsed unended AreSecrets
 reads_back_unended k [] a = refl
 reads_back_unended k (s ∷ []) a = last_line k 0 s a.0.0 a.0.1
@@ -263,7 +263,7 @@ line k n t (Some s) (Ok others) secrets es er ih e =
     (split t) in
     subst (Good (suc n) t) secrets-are (ap suc rest.0, (inverse.1, rest.1), texts)
 
-pub only_written : Only-written
+pub only_written : OnlyWritten
 unfolding parsed written AreSecrets
 only_written k zero [] secrets e =
     let none : [] ≡ secrets = ok_inj [] secrets e in

@@ -37,18 +37,18 @@ abbrev pub Grows : Record → Record → Type 0
 Grows before after = (m : ℕ) → (more : List (List ℕ)) × (after m ≡ more ++ before m)
 
 -- What was unforged stays so as more is signed.
-abbrev pub Unforged-stays : Type 0
-Unforged-stays =
+abbrev pub UnforgedStays : Type 0
+UnforgedStays =
     (right : Right) (good : ℕ → Bool) (before after : Record) (met : List Signed)
     → Grows before after → Unforged right good before met → Unforged right good after met
 
 -- It holds of two lists of signatures together where it holds of each.
-abbrev pub Unforged-joins : Type 0
-Unforged-joins =
+abbrev pub UnforgedJoins : Type 0
+UnforgedJoins =
     (right : Right) (good : ℕ → Bool) (said : Record) (some others : List Signed)
     → Unforged right good said some → Unforged right good said others → Unforged right good said (some ++ others)
 
 -- Where just what stands in the record is accepted, the promise is kept, whatever is met. (No real scheme is like that: this one looks at no signature.)
-abbrev pub Ideal-can-be-met : Type 0
-Ideal-can-be-met =
+abbrev pub IdealCanBeMet : Type 0
+IdealCanBeMet =
     (good : ℕ → Bool) (said : Record) (met : List Signed) → Unforged (λ m message _. is_in message (said m)) good said met

@@ -1,7 +1,7 @@
 -- The scheme for rehearsals: a member's signature of a message is SHA3-512 of its secret and the message, one after the other.
 -- All members know all secrets, so it keeps nobody from signing as another: it is for trying programs out, and for nothing else.
 
-use Rattle.std.specs.Prelude.{ℕ, Bool, ◌&&◌, List, [], ◌∷◌, ◌++◌, length, Some, Option, nat_lt, slice_index_or}
+use Rattle.std.specs.Prelude.{ℕ, Bool, ◌&&◌, List, [], ◌++◌, length, Some, Option, nat_lt, slice_index_or}
 use Rattle.sha3.specs.Sponge.{sha3_512}
 use Rattle.scheme.specs.declared.rehearsal.Rehearsal.{Rehearsal}
 use Rattle.scheme.specs.Bytes.{same}

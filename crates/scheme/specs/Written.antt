@@ -30,13 +30,13 @@ unfoldable pub AreSecrets : List (List ℕ) → Type 0
 AreSecrets [] = Unit {0}
 AreSecrets (s ∷ secrets) = ((length s ≡ 32) × AreBytes s) × AreSecrets secrets
 
-abbrev pub Reads-back : Type 0
-Reads-back = (k : ℕ) (secrets : List (List ℕ)) → AreSecrets secrets → parsed k (length secrets) (written secrets) ≡ Ok secrets
+abbrev pub ReadsBack : Type 0
+ReadsBack = (k : ℕ) (secrets : List (List ℕ)) → AreSecrets secrets → parsed k (length secrets) (written secrets) ≡ Ok secrets
 
-abbrev pub Reads-back-unended : Type 0
-Reads-back-unended = (k : ℕ) (secrets : List (List ℕ)) → AreSecrets secrets → parsed k (length secrets) (unended secrets) ≡ Ok secrets
+abbrev pub ReadsBackUnended : Type 0
+ReadsBackUnended = (k : ℕ) (secrets : List (List ℕ)) → AreSecrets secrets → parsed k (length secrets) (unended secrets) ≡ Ok secrets
 
-abbrev pub Only-written : Type 0
-Only-written =
+abbrev pub OnlyWritten : Type 0
+OnlyWritten =
     (k n : ℕ) (text : List ℕ) (secrets : List (List ℕ)) → parsed k n text ≡ Ok secrets
     → (length secrets ≡ n) × AreSecrets secrets × ((text ≡ written secrets) ⊎ (text ≡ unended secrets))

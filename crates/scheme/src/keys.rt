@@ -6,7 +6,7 @@ ghost use Rattle.std.specs.Prelude.{◌≡◌, ℕ, List, Some, Ok, Err, MatchRe
 ghost use Rattle.std.specs.Option.{option_map};
 ghost use Rattle.scheme.specs.declared.keys.KeysError.TheVariants.{OutOfMemory};
 ghost use Rattle.scheme.specs.Keys.{keys_of, digit_of, secret_of, first_line, after_line, parsed, Fails, told};
-ghost use Rattle.scheme.specs.Written.{Reads-back, Reads-back-unended, Only-written};
+ghost use Rattle.scheme.specs.Written.{ReadsBack, ReadsBackUnended, OnlyWritten};
 
 use std::alloc::{AllocFailed, Global};
 use std::fmt;
@@ -178,9 +178,9 @@ impl Keys {
 
 /// The laws of a file KEYS, as theorems: what is written is read back, and nothing else is read. See specs/Written.antt.
 pub fn keys_laws() -> u8
-    ensures reads_back { Reads-back }
-    ensures reads_back_unended { Reads-back-unended }
-    ensures only_written { Only-written }
+    ensures reads_back { ReadsBack }
+    ensures reads_back_unended { ReadsBackUnended }
+    ensures only_written { OnlyWritten }
 {
     0
 }

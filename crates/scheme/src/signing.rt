@@ -2,7 +2,7 @@
 
 ghost use Rattle.std.specs.Prelude.{◌≡◌, ℕ, ◌<◌, Bool, true, List, ◌∷◌, length, IfOk, Some, codes, Option, MatchResult};
 ghost use Rattle.std.specs.Result.{result_ok};
-ghost use Rattle.scheme.specs.Ideal.{Unforged-stays, Unforged-joins, Ideal-can-be-met};
+ghost use Rattle.scheme.specs.Ideal.{UnforgedStays, UnforgedJoins, IdealCanBeMet};
 
 use std::fmt;
 
@@ -69,9 +69,9 @@ pub trait Scheme<const LENGTH: usize> {
 
 /// The laws of what an ideal scheme promises, as theorems: see specs/Ideal.antt.
 pub fn ideal_laws() -> u8
-    ensures stays { Unforged-stays }
-    ensures joins { Unforged-joins }
-    ensures met { Ideal-can-be-met }
+    ensures stays { UnforgedStays }
+    ensures joins { UnforgedJoins }
+    ensures met { IdealCanBeMet }
 {
     0
 }

@@ -4,7 +4,7 @@ use Rattle.std.proofs.Common.{◌≡◌, ℕ, zero, suc, ◌+◌, ◌/◌, ◌%�
 use Rattle.sha3.specs.Keccak.{keccak, keccak_round, rounds}
 use Rattle.sha3.specs.Sponge.{add_byte, squeezed, sponge, zeros}
 use Rattle.sha3.specs.Feeding.{step, feeding, Holds}
-use Rattle.sha3.specs.Pieces.{joined, feedings, ended, Any-pieces}
+use Rattle.sha3.specs.Pieces.{joined, feedings, ended, AnyPieces}
 use Rattle.sha3.proofs.Feeding.{feeding-++, place, finished}
 
 length-rounds : (n : ℕ) (a : List ℕ) → length a ≡ 25 → length (rounds n a) ≡ 25
@@ -30,7 +30,7 @@ unfolding feeding feedings joined
 feedings-joined r f [] = refl
 feedings-joined r f (p ∷ ps) = feedings-joined r (feeding r f p) ps ∙ sym (feeding-++ r f p (joined ps))
 
-pub any_pieces : Any-pieces
+pub any_pieces : AnyPieces
 unfolding Holds ended sponge
 any_pieces r suffix n pieces some small h =
     let fed : List ℕ = joined pieces in

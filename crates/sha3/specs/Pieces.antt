@@ -20,7 +20,7 @@ unfoldable pub ended : ℕ → ℕ → ℕ → List ℕ × ℕ → List ℕ
 ended r suffix n f = squeezed r n (keccak (add_byte (add_byte f.0 f.1 suffix) (r - 1) 128))
 
 -- However a message is cut, its pieces lead to the definition's bytes for the whole.
-abbrev pub Any-pieces : Type 0
-Any-pieces =
+abbrev pub AnyPieces : Type 0
+AnyPieces =
     (r suffix n : ℕ) (pieces : List (List ℕ)) → 0 < r → r ≤ 200 → suffix < 128
     → ended r suffix n (feedings r (zeros, 0) pieces) ≡ sponge r suffix n (joined pieces)

@@ -1,6 +1,6 @@
 -- Where the numbers of rho and iota come from: the standard's own definitions of them, computed.
 
-use Rattle.std.specs.Prelude.{◌≡◌, ℕ, zero, suc, ◌+◌, ◌-◌, ◌*◌, ◌/◌, ◌%◌, ◌^◌, cond, List, [], ◌∷◌, replicate, bit_xor, nat_le, slice_set}
+use Rattle.std.specs.Prelude.{◌≡◌, ℕ, zero, suc, ◌+◌, ◌*◌, ◌/◌, ◌%◌, ◌^◌, cond, List, [], ◌∷◌, replicate, bit_xor, nat_le, slice_set}
 use Rattle.sha3.specs.Keccak.{offsets, round_constants}
 
 -- Algorithm 2, step 3: n steps of the walk from lane (x, y) at step t, each of which gives a lane its offset.
@@ -31,5 +31,5 @@ defined_constants zero i = []
 defined_constants (suc n) i = defined_constant i ∷ defined_constants n (i + 1)
 
 -- The tables in use are these.
-abbrev pub Tables-stand : Type 0
-Tables-stand = (offsets ≡ walked_offsets) × (round_constants ≡ defined_constants 24 0)
+abbrev pub TablesStand : Type 0
+TablesStand = (offsets ≡ walked_offsets) × (round_constants ≡ defined_constants 24 0)

@@ -6,7 +6,6 @@
 
 mod digest256;
 mod digest512;
-mod export;
 mod keccak;
 mod shake;
 mod sponge;

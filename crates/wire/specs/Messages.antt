@@ -1,5 +1,5 @@
 -- The bytes of messages: blocks, signatures and asks. All numbers are written lowest byte first. Assumes nothing.
-use Rattle.std.specs.Prelude.{◌≡◌, List, [], ◌∷◌, ◌++◌, Bool, true, false, ◌&&◌, ℕ, zero, suc, ◌+◌, ◌*◌, ◌/◌, ◌%◌, ◌^◌, ◌<◌, ◌≤◌, T, eqb, ltb, leb, length}
+use Rattle.std.specs.Prelude.{◌≡◌, List, [], ◌∷◌, ◌++◌, Bool, true, ◌&&◌, ℕ, zero, suc, ◌/◌, ◌%◌, ◌^◌, T, eqb, ltb, leb, length}
 use Rattle.model.specs.Names.{all_below}
 use Rattle.model.specs.Blocks.{max_parents, max_load, byte_limit}
 

@@ -1,6 +1,6 @@
-use Rattle.std.proofs.Common.{◌≡◌, ℕ, ◌+◌, ◌*◌, ◌/◌, Some, None, Option, sym, refl, ap, ◌∙◌}
+use Rattle.std.proofs.Common.{◌≡◌, ℕ, ◌+◌, ◌*◌, ◌/◌, Some, None, refl, ap, ◌∙◌}
 use Rattle.model.specs.Thresholds.{members}
-use Rattle.order_theory.specs.Tables.{Marked, marked_from, written_from}
+use Rattle.order_theory.specs.Tables.{marked_from, written_from}
 use Rattle.order_theory.proofs.Places.{noughts}
 use Rattle.order_theory.proofs.Steps.{marked_is}
 use Rattle.order_theory.proofs.Main.{written_by_lem}
@@ -18,8 +18,8 @@ returns-in-None g c =
     let r =
     written_by_lem f b web c.requires.whole c.requires.once c.requires.fits c.requires.few c.requires.room (3 * f + 1)
     c.enter.new.names c.enter.new.marks
-    (c.last-round.result / 2 + 1) None (members-is f) c.enter.ensures.named c.enter.ensures.marked
-    (ap (λ (k : ℕ). k / 2 + 1) c.last-round.ensures) c.in-None.ensures.last in
+    (c.last_round.result / 2 + 1) None (members-is f) c.enter.ensures.named c.enter.ensures.marked
+    (ap (λ (k : ℕ). k / 2 + 1) c.last_round.ensures) c.in-None.ensures.last in
     record { count = ap (λ w. w.count) r; listed = ap (λ w. w.out) r }
 
 pub returns-in-Some : goal.returns-in-Some
@@ -32,10 +32,10 @@ returns-in-Some g c =
     let marks = c.enter.new.marks in
     let r =
     written_by_lem f b web c.requires.whole c.requires.once c.requires.fits c.requires.few c.requires.room n names marks
-    (c.last-round.result / 2 + 1) (Some c.in-Some.k) (members-is f) c.enter.ensures.named c.enter.ensures.marked
-    (ap (λ (k : ℕ). k / 2 + 1) c.last-round.ensures) c.in-Some.ensures.last in
+    (c.last_round.result / 2 + 1) (Some c.in-Some.k) (members-is f) c.enter.ensures.named c.enter.ensures.marked
+    (ap (λ (k : ℕ). k / 2 + 1) c.last_round.ensures) c.in-Some.ensures.last in
     let t =
-    marked_is (marked_from n b c.in-Some.k names marks) c.mark-from-anchors.new.marks c.mark-from-anchors.result
-    c.mark-from-anchors.ensures.marks c.mark-from-anchors.ensures.anchors in
+    marked_is (marked_from n b c.in-Some.k names marks) c.mark_from-anchors.new.marks c.mark_from-anchors.result
+    c.mark_from-anchors.ensures.marks c.mark_from-anchors.ensures.anchors in
     let s = ap (λ t. written_from names t (noughts 4096)) t ∙ r in
-    record { count = c.write-from.ensures.count ∙ ap (λ w. w.count) s; listed = c.write-from.ensures.out ∙ ap (λ w. w.out) s }
+    record { count = c.write_from.ensures.count ∙ ap (λ w. w.count) s; listed = c.write_from.ensures.out ∙ ap (λ w. w.out) s }

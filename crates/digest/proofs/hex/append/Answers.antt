@@ -9,10 +9,10 @@ loop-b-preserved c =
     let bytes = c.args.bytes.now in
     let text : List ℕ = vec_items c.loop-b.text in
     let first : vec_items c.push.new.self ≡ text ++ character_of (get_or bytes i 0 / 16) ∷ []
-    = c.in-ok-push.ensures.items ∙ ap (λ x. text ++ x ∷ []) c.character.ensures in
+    = c.in_ok-push.ensures.items ∙ ap (λ x. text ++ x ∷ []) c.character.ensures in
     let second : vec_items c.push-in-loop-b.new.self
     ≡ (text ++ character_of (get_or bytes i 0 / 16) ∷ []) ++ character_of (get_or bytes i 0 % 16) ∷ []
-    = c.in-ok-push-2.ensures.items
+    = c.in_ok-push-2.ensures.items
     ∙ ap (λ x. vec_items c.push.new.self ++ x ∷ []) c.character-in-loop-b.ensures
     ∙ ap (λ t. t ++ character_of (get_or bytes i 0 % 16) ∷ []) first in
     append_more (vec_items c.args.text.now) text bytes i c.loop-b-test.true c.loop-b.invariant

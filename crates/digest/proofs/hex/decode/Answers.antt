@@ -19,7 +19,7 @@ loop-i-preserved c =
     let text = c.args.text.now in
     let room : 2 * i + 1 < length text = omega (arith, c.loop-i-test.true) in
     decode_more text (vec_items c.loop-i.bytes) i c.in-Some.b room (sym c.in-Some.ensures) c.loop-i.invariant
-    ∙ ap (λ t. onto t (decoded (drop (2 * (i + 1)) text))) (sym c.in-ok-push.ensures.items)
+    ∙ ap (λ t. onto t (decoded (drop (2 * (i + 1)) text))) (sym c.in_ok-push-in-Some.ensures.items)
 
 pub returns : goal.returns
 returns c =

@@ -10,8 +10,8 @@ loop-byte-init c = c.new-digits.ensures.items
 
 pub loop-byte-preserved : goal.loop-byte-preserved
 loop-byte-preserved c =
-    c.in-ok-push-2.ensures.items
-    ∙ ap (λ l. l ++ (c.digit-in-loop-byte.result ∷ [])) c.in-ok-push.ensures.items
+    c.in_ok-push-2.ensures.items
+    ∙ ap (λ l. l ++ (c.digit-in-loop-byte.result ∷ [])) c.in_ok-push.ensures.items
     ∙ digits_push (vec_items c.loop-byte.digits) c.args.bytes.now c.loop-byte.byte-index c.digit.result c.digit-in-loop-byte.result
     c.loop-byte-test.true c.loop-byte.invariant c.digit.ensures c.digit-in-loop-byte.ensures
 

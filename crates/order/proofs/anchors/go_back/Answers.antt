@@ -1,4 +1,4 @@
-use Rattle.std.proofs.Common.{◌≡◌, ℕ, ◌-◌, ◌<◌, ◌≤◌, sym, ap, ◌∙◌, arith}
+use Rattle.std.proofs.Common.{◌≡◌, ℕ, ◌-◌, sym, ap, ◌∙◌, arith}
 use Rattle.order_theory.specs.Tables.{Marked, one_row, went_back}
 use Rattle.order_theory.proofs.Steps.{back_none, back_more, marked_is}
 use Rattle.order.proofs.anchors.go_back.Goals as goal
@@ -12,8 +12,8 @@ loop-round-preserved g c =
     let s : Marked = record { marks = c.loop-round.marks; anchors = c.loop-round.anchors } in
     let e = back_more n b names r s (omega arith) in
     let m =
-    marked_is (one_row n b names (r - 1) s) c.one-row-anchors.new.marks c.one-row-anchors.result c.one-row-anchors.ensures.marks
-    c.one-row-anchors.ensures.anchors in
+    marked_is (one_row n b names (r - 1) s) c.one_row-anchors.new.marks c.one_row-anchors.result c.one_row-anchors.ensures.marks
+    c.one_row-anchors.ensures.anchors in
     (c.loop-round.invariant.0 ∙ (e ∙ ap (went_back n b names (r - 1)) (sym m)), omega arith)
 
 pub returns : goal.returns

@@ -1,4 +1,4 @@
-use Rattle.std.proofs.Common.{◌≡◌, ◌<◌, ◌≤◌, length, sym, ◌∙◌, arith}
+use Rattle.std.proofs.Common.{sym, ◌∙◌, arith}
 use Rattle.order_theory.proofs.Steps.{in_here_more, in_more, in_end}
 use Rattle.order.proofs.anchors.has_parent.Goals as goal
 

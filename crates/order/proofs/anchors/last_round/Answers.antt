@@ -1,4 +1,4 @@
-use Rattle.std.proofs.Common.{◌≡◌, ◌<◌, ◌≤◌, length, sym, ◌∙◌, arith, rules}
+use Rattle.std.proofs.Common.{length, sym, arith, rules}
 use Rattle.order_theory.proofs.Steps.{last_more, last_end}
 use Rattle.order.proofs.anchors.last_round.Goals as goal
 

@@ -1,20 +1,20 @@
-use Rattle.std.proofs.Common.{◌≡◌, ℕ, ◌<◌, ◌≤◌, sym, ap, ◌∙◌, arith}
+use Rattle.std.proofs.Common.{◌≡◌, ℕ, sym, ap, ◌∙◌, arith}
 use Rattle.order_theory.specs.Tables.{last_voted_at}
 use Rattle.order_theory.proofs.Steps.{voted_none, voted_here, voted_not}
 use Rattle.order.proofs.anchors.last_voted.Goals as goal
 
-pub returns-then-voted-at : goal.returns-then-voted-at
-returns-then-voted-at g c =
+pub returns-then-voted_at : goal.returns-then-voted_at
+returns-then-voted_at g c =
     let e =
     voted_here c.args.f c.args.members (g.B.Library.what c.args.book.now) c.args.names.now c.args.marks.now c.loop-k.k
-    (omega arith) (sym c.if-voted-at.ensures) in
+    (omega arith) (sym c.if-voted_at.ensures) in
     record { last = sym (c.loop-k.invariant ∙ e); below = omega arith }
 
 pub loop-k-preserved : goal.loop-k-preserved
 loop-k-preserved g c =
     c.loop-k.invariant
     ∙ voted_not c.args.f c.args.members (g.B.Library.what c.args.book.now) c.args.names.now c.args.marks.now c.loop-k.k
-    (omega arith) (sym c.if-voted-at.ensures)
+    (omega arith) (sym c.if-voted_at.ensures)
 
 pub returns : goal.returns
 returns g c =

@@ -1,4 +1,4 @@
-use Rattle.std.proofs.Common.{◌≡◌, ◌<◌, ◌≤◌, length, sym, ap, ◌∙◌, arith}
+use Rattle.std.proofs.Common.{◌<◌, length, sym, ◌∙◌, arith}
 use Rattle.order_theory.proofs.Steps.{raised_more, raised_end}
 use Rattle.order.proofs.anchors.raise_parents.Goals as goal
 
@@ -9,7 +9,7 @@ loop-i-preserved g c =
     let h : c.loop-i.i < length parents = omega arith in
     let e = raised_more c.args.members b c.args.mark parents c.loop-i.i c.loop-i.marks h in
     let p = c.parent.ensures in
-    let q = c.place-of-place.ensures in
+    let q = c.place_of-place.ensures in
     let r = c.raise.ensures in
     let s = c.loop-i.invariant in
     cc

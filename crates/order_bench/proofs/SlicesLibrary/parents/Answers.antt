@@ -7,4 +7,4 @@ use Rattle.order_bench.proofs.SlicesLibrary.parents.Goals as goal
 pub returns : goal.returns
 returns c =
     let e = get_or c.args.self.now.entries.now c.args.name no_entry in
-    ap (λ e. e.count) c.entry-of.ensures ∙ sym (padded-length e.count (drop e.start c.args.self.now.all.now))
+    ap (λ e. e.count) c.entry_of.ensures ∙ sym (padded-length e.count (drop e.start c.args.self.now.all.now))

@@ -3,11 +3,11 @@ use Rattle.lines.specs.Left.{left}
 use Rattle.rehearsal.proofs.Parsing.{tails}
 use Rattle.rehearsal.proofs.command.member_and_word.Goals as goal
 
-pub returns-in-default : goal.returns-in-default
-returns-in-default c i word m = c.in-default.ensures m.digits (word ∷ []) i m.are m.number
+pub returns-in_default : goal.returns-in_default
+returns-in_default c i word m = c.in_default.ensures m.digits (word ∷ []) i m.are m.number
 
-pub returns-in-default-next-word : goal.returns-in-default-next-word
-returns-in-default-next-word c i word m =
+pub returns-in_default-next_word : goal.returns-in_default-next_word
+returns-in_default-next_word c i word m =
     let one = c.in-Some.ensures in
-    c.in-default-next-word.ensures word [] (tails (left c.args.words) one.0 m.digits (left c.next-number.new.words) (word ∷ []) one.1 m.are)
+    c.in_default-next_word.ensures word [] (tails (left c.args.words) one.0 m.digits (left c.next_number.new.words) (word ∷ []) one.1 m.are)
     m.some

@@ -1,4 +1,4 @@
-use Rattle.std.proofs.Common.{sym, rules}
+use Rattle.std.proofs.Common.{rules}
 use Rattle.lines.specs.Left.{left}
 use Rattle.rehearsal.proofs.Parsing.{heads, none_read}
 use Rattle.rehearsal.proofs.command.next_number.Goals as goal
@@ -9,4 +9,4 @@ returns-in-Some-number c = (c.in-Some.digits.now, c.in-Some.ensures, record { wr
 pub returns-in-None : goal.returns-in-None
 returns-in-None c digits ws n e r =
     none_read c.in-Some.digits.now digits n
-    (heads (left c.args.words.now) c.in-Some.digits.now digits (left c.next-word.new.self) ws c.in-Some.ensures e) c.in-None.ensures r
+    (heads (left c.args.words.now) c.in-Some.digits.now digits (left c.next_word.new.self) ws c.in-Some.ensures e) c.in-None.ensures r

@@ -8,5 +8,5 @@ pub loop-init : goal.loop-init
 loop-init g c = (
   opening c.args.faults.f,
   subst (λ (k : Committee). Plays (opening c.args.faults.f) c.new-book.result k) (sym c.new-player.ensures.committee)
-      (c.in-ok-new.ensures c.new-book.result c.new-book.ensures.empty),
+      (c.in_ok-new.ensures c.new-book.result c.new-book.ensures.empty),
 )

@@ -1,4 +1,4 @@
-use Rattle.std.proofs.Common.{◌≡◌, ◌<◌, ◌≤◌, length, sym, ◌∙◌, arith, eq-eqb, ne_eqb}
+use Rattle.std.proofs.Common.{◌<◌, ◌≤◌, length, sym, ◌∙◌, arith, eq-eqb, ne_eqb}
 use Rattle.replica.proofs.Walks.{any_hit, any_miss, any_end, is_in_any}
 use Rattle.replica.proofs.checks.is_parent_from.Goals as goal
 

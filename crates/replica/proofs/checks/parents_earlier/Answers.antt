@@ -1,4 +1,4 @@
-use Rattle.std.proofs.Common.{◌≡◌, ℕ, ◌<◌, ◌≤◌, length, get_or, sym, ap, arith, le-ltb, lt-ltb}
+use Rattle.std.proofs.Common.{ℕ, ◌<◌, ◌≤◌, length, get_or, sym, ap, arith, le-ltb, lt-ltb}
 use Rattle.replica.proofs.Walks.{all_hit, all_miss, all_end, earlier_all}
 use Rattle.replica.proofs.checks.parents_earlier.Goals as goal
 

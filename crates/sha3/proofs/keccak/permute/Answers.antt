@@ -9,4 +9,4 @@ loop-i-init c = refl
 pub loop-i-preserved : goal.loop-i-preserved
 unfolding rounds
 loop-i-preserved c =
-    rw add-one (c.round_next.ensures ∙ ap (λ s. keccak_round s (get_or round_constants c.loop-i.i 0)) c.loop-i.invariant)
+    rw add-one (c.round-next.ensures ∙ ap (λ s. keccak_round s (get_or round_constants c.loop-i.i 0)) c.loop-i.invariant)

@@ -1,5 +1,5 @@
 use Rattle.std.proofs.Common.{ap, ◌∙◌}
-use Rattle.sha3.specs.Keccak.{theta, rho, pi, chi, iota, keccak_round}
+use Rattle.sha3.specs.Keccak.{rho, pi, chi, iota, keccak_round}
 use Rattle.sha3.proofs.keccak.round.Goals as goal
 
 -- The five steps in a row, each by its own contract.

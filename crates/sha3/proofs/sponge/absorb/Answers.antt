@@ -22,7 +22,7 @@ loop-place-preserved c =
       c.loop-place.invariant.0
           ∙ block_more r s i (r - i) done bytes fills some room
           ∙ ap (λ n. feeding r (keccak (add_bytes s i (take n (drop done bytes))), 0) (drop (done + (r - i)) bytes)) same
-          ∙ ap (λ t. feeding r (keccak t, 0) (drop (done + (r - i)) bytes)) (sym c.add-bytes.ensures)
+          ∙ ap (λ t. feeding r (keccak t, 0) (drop (done + (r - i)) bytes)) (sym c.add_bytes.ensures)
           ∙ ap (λ t. feeding r (t, 0) (drop (done + (r - i)) bytes)) (sym c.permute.ensures),
       omega arith,
       room,
@@ -42,7 +42,7 @@ returns c =
     record {
       fed =
           ap (λ t. (t, i + (length bytes - done)))
-          (c.add-bytes-2.ensures ∙ ap (add_bytes s i) (take_all (length bytes - done) (drop done bytes) left))
+          (c.add_bytes-2.ensures ∙ ap (add_bytes s i) (take_all (length bytes - done) (drop done bytes) left))
           ∙ sym (c.loop-place.invariant.0 ∙ block_last r s i done bytes in-range room);
       within = room;
     }

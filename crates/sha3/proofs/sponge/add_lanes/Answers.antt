@@ -17,9 +17,9 @@ loop-i-preserved c =
     let long : length s ≡ 25 = c.loop-i.invariant.1 in
     let room : 8 * i + 8 ≤ length bytes = omega (arith, c.loop-i-test.true) in
     let inside : q + i < length s = omega (arith, c.requires.0) in
-    let turn = lanes_more s q i bytes room inside (λ k. (c.type-inv.bytes k).fits) in (
+    let turn = lanes_more s q i bytes room inside (λ k. (c.type_inv.bytes k).fits) in (
       c.loop-i.invariant.0 ∙ turn
-          ∙ ap (λ w. add_bytes (set s (q + i) (bit_xor (get_or s (q + i) 0) w)) (8 * (q + (i + 1))) (drop (8 * (i + 1)) bytes)) (sym c.from-le-bytes-word.ensures),
+          ∙ ap (λ w. add_bytes (set s (q + i) (bit_xor (get_or s (q + i) 0) w)) (8 * (q + (i + 1))) (drop (8 * (i + 1)) bytes)) (sym c.from_le_bytes-word.ensures),
       length-set s (q + i) _ ∙ long,
     )
 

@@ -11,7 +11,7 @@ loop-i-preserved c =
     let i = c.loop-i.i in
     c.loop-i.invariant
     ∙ singly_more c.loop-i.state c.args.at i c.args.bytes.now c.loop-i-test.true
-    ∙ ap (λ s. add_bytes s (c.args.at + (i + 1)) (drop (i + 1) c.args.bytes.now)) (sym c.add-byte.ensures)
+    ∙ ap (λ s. add_bytes s (c.args.at + (i + 1)) (drop (i + 1) c.args.bytes.now)) (sym c.add_byte.ensures)
 
 pub returns : goal.returns
 returns c =

@@ -10,7 +10,7 @@ loop-i-preserved c =
     let b = bytes_of c.args.state.now in
     let l : i < length out = omega arith in
     let m : i < length b = omega (arith, length-bytes_of c.args.state.now) in
-    copy_more b out i c.byte-of.result l m c.byte-of.ensures c.loop-i.invariant
+    copy_more b out i c.byte_of.result l m c.byte_of.ensures c.loop-i.invariant
 
 pub returns : goal.returns
 returns c =

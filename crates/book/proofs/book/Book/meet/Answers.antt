@@ -8,47 +8,38 @@ use Rattle.book.proofs.Below.{tested_below}
 use Rattle.book.proofs.Growing.{apart_more, limited_more, earlier_more, within, met_new}
 use Rattle.book.proofs.book.Book.meet.Goals as goal
 
-pub invariant-of-self : goal.invariant-of-self
-invariant-of-self c =
+pub invariant_of-self : goal.invariant_of-self
+invariant_of-self c =
     let b = c.args.self.now in
     let k = block_of c.args.author c.args.round c.args.parents.now c.args.load.now in
     let grown : blocks b ++ (k ∷ []) ≡ contents c.push.new.self = sym {b = blocks b ++ (k ∷ [])} c.push.ensures.contents in
-    let absent : Absent (blocks b) k = subst (λ (ks : List Block). Absent ks k) c.view.ensures c.in-default.ensures in
-    let there = tested_below _ _ _ c.args.parents.now c.all-below.ensures c.if-not-all-below.false c.len-next.ensures in
-    let small = within k c.if-parents-gt-MAX-PARENTS.false c.if-load-gt-MAX-LOAD.false (λ i. (c.type-inv.load i).fits) in (
-      c.push.ensures.counted,
-      (
-        c.push.ensures.parents,
-        (
-          c.push.ensures.loads,
-          (
-            c.push.ensures.placed,
-            (
-              subst OneName grown (apart_more (blocks b) k b.apart absent),
-              (
-                subst Limited grown (limited_more (blocks b) k b.limited small),
-                (subst ParentsBefore grown (earlier_more (blocks b) k b.earlier there), tt),
-              ),
-            ),
-          ),
-        ),
-      ),
-    )
+    let absent : Absent (blocks b) k = subst (λ (ks : List Block). Absent ks k) c.view.ensures c.in_default.ensures in
+    let there = tested_below _ _ _ c.args.parents.now c.all_below.ensures c.if-not-all_below.false c.len-next.ensures in
+    let small = within k c.if-parents-gt-MAX_PARENTS.false c.if-load-gt-MAX_LOAD.false (λ i. (c.type_inv.load i).fits) in
+    record {
+      counted = c.push.ensures.counted;
+      parents = c.push.ensures.parents;
+      loads = c.push.ensures.loads;
+      placed = c.push.ensures.placed;
+      apart = subst OneName grown (apart_more (blocks b) k b.apart absent);
+      limited = subst Limited grown (limited_more (blocks b) k b.limited small);
+      earlier = subst ParentsBefore grown (earlier_more (blocks b) k b.earlier there);
+    }
 
 pub returns : goal.returns
 returns c =
     let b = c.args.self.now in
     let k = block_of c.args.author c.args.round c.args.parents.now c.args.load.now in
-    let absent : Absent (blocks b) k = subst (λ (ks : List Block). Absent ks k) c.view.ensures c.in-default.ensures in
-    let there = tested_below _ _ _ c.args.parents.now c.all-below.ensures c.if-not-all-below.false c.len-next.ensures in
+    let absent : Absent (blocks b) k = subst (λ (ks : List Block). Absent ks k) c.view.ensures c.in_default.ensures in
+    let there = tested_below _ _ _ c.args.parents.now c.all_below.ensures c.if-not-all_below.false c.len-next.ensures in
     record {
       lent = c.push.ensures.lent;
       met =
           met_new _ (blocks b) k _ _
-          (record { few_parents = c.if-parents-gt-MAX-PARENTS.false; short_load = c.if-load-gt-MAX-LOAD.false; parents_there = there })
+          (record { few_parents = c.if-parents-gt-MAX_PARENTS.false; short_load = c.if-load-gt-MAX_LOAD.false; parents_there = there })
           (record {
             absent = absent;
-            room = c.has-room.ensures.0 c.if-not-has-room.false;
+            room = c.has_room.ensures.0 c.if-not-has_room.false;
             next = c.len-next.ensures;
             grown = c.push.ensures.contents;
           });

@@ -4,15 +4,14 @@ use Rattle.book.specs.Memory.{parents_of_all, bytes_of_all}
 use Rattle.book.proofs.book.Book.new.Goals as goal
 
 -- nothing is below nought, so what holds of each block holds of none
-pub invariant-of-result : goal.invariant-of-result
+pub invariant_of-result : goal.invariant_of-result
 unfolding parents_of_all bytes_of_all all_below
-invariant-of-result c = (
-  (omega arith, omega arith),
-  (
-    (refl, omega arith, omega arith),
-    (
-      (refl, omega arith, omega arith),
-      (λ i h. (omega arith, omega arith), (λ i j h. omega arith, (λ i h. tt, (λ i h. tt, tt)))),
-    ),
-  ),
-)
+invariant_of-result c = record {
+  counted = (omega arith, omega arith);
+  parents = (refl, omega arith, omega arith);
+  loads = (refl, omega arith, omega arith);
+  placed = λ i h. (omega arith, omega arith);
+  apart = λ i j h. omega arith;
+  limited = λ i h. tt;
+  earlier = λ i h. tt;
+}

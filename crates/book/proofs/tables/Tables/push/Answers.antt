@@ -1,5 +1,4 @@
-use Rattle.std.proofs.Common.{◌≡◌, ◌+◌, ◌-◌, ◌<◌, ◌≤◌, length, refl, ap, ◌∙◌, arith}
-use borrow.Rule.Slice.PartMut.{put_mid}
+use Rattle.std.proofs.Common.{◌+◌, ◌-◌, ◌<◌, ◌≤◌, length, ap, ◌∙◌, arith}
 use Rattle.std.proofs.lemmas.List.{length-set}
 use Rattle.book.specs.Memory.{contents, parents_of_all, bytes_of_all}
 use Rattle.book.specs.Meeting.{block_of}
@@ -25,8 +24,8 @@ returns c =
     let ls = c.args.load.now in
     let p = t.parents_used in
     let l = t.loads_used in
-    let ps' = c.copy-from-slice.new.self in
-    let ls' = c.copy-from-slice-2.new.self in
+    let ps' = c.copy_from_slice.new.self in
+    let ls' = c.copy_from_slice-2.new.self in
     let entry = new_entry c.args.author c.args.round p (length ps) l (length ls) in
     let block = block_of c.args.author c.args.round ps ls in
     let n = count_is t c.requires.counted.0 in
@@ -35,13 +34,13 @@ returns c =
     let l-lent : l + length ls ≤ length t.loads.now = omega arith in
     let es-same = length-set t.entries.now t.count entry in
     let ps-same =
-    length-written p (p + length ps - p) t.parents.now ps' ps c.copy-from-slice.ensures.after (omega arith) p-lent in
+    length-written p (p + length ps - p) t.parents.now ps' ps c.copy_from_slice.ensures.after (omega arith) p-lent in
     let ls-same =
-    length-written l (l + length ls - l) t.loads.now ls' ls c.copy-from-slice-2.ensures.after (omega arith) l-lent in
+    length-written l (l + length ls - l) t.loads.now ls' ls c.copy_from_slice-2.ensures.after (omega arith) l-lent in
     let grown =
     block_pushed t.entries.now t.count c.args.author c.args.round t.parents.now t.loads.now p l
     (p + length ps - p) (l + length ls - l) ps' ls' ps ls lt c.requires.placed (omega arith) (omega arith)
-    c.copy-from-slice.ensures.after c.copy-from-slice-2.ensures.after in
+    c.copy_from_slice.ensures.after c.copy_from_slice-2.ensures.after in
     let all-parents = ap parents_of_all grown ∙ parents_of_more (contents t) block in
     let all-bytes = ap bytes_of_all grown ∙ bytes_of_more (contents t) block in
     record {

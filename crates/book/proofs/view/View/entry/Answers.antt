@@ -1,4 +1,4 @@
-use Rattle.std.proofs.Common.{sym, arith, rules}
+use Rattle.std.proofs.Common.{sym, arith}
 use Rattle.book.proofs.Blocks.{block_there, block_past}
 use Rattle.book.proofs.view.View.entry.Goals as goal
 

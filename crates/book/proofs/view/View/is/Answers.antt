@@ -13,12 +13,12 @@ returns-then-eq c =
     c.args.author c.args.round c.args.parents.now c.args.load.now c.load.result.now _
     (sym c.author.ensures ∙ c.if-author.false)
     (sym c.round.ensures ∙ c.if-round.false)
-    (sym c.parents-of.ensures ∙ (slice_eq-Decides Decides-eqb _ _ _ c.eq.ensures).0 c.if-eq.true)
+    (sym c.parents_of.ensures ∙ (slice_eq-Decides Decides-eqb _ _ _ c.eq.ensures).0 c.if-eq.true)
     c.load.ensures (slice_eq-Decides Decides-eqb _ _ _ c.eq-then-eq.ensures)
 
 pub returns-else-eq : goal.returns-else-eq
 returns-else-eq c =
     decided_by_parents
     (book_of (held c.args.self.now) c.args.name)
-    c.args.author c.args.round c.args.parents.now c.args.load.now c.parents-of.result.now _
-    c.parents-of.ensures (slice_eq-Decides Decides-eqb _ _ _ c.eq.ensures) c.if-eq.false
+    c.args.author c.args.round c.args.parents.now c.args.load.now c.parents_of.result.now _
+    c.parents_of.ensures (slice_eq-Decides Decides-eqb _ _ _ c.eq.ensures) c.if-eq.false

@@ -6,4 +6,4 @@ pub returns-else-self : goal.returns-else-self
 returns-else-self c line keeps =
     let self = c.args.self.now in
     let is = whole (vec_items self.bytes) line self.too_long keeps.front keeps.more c.if-self.false in
-    (c.as-slice.ensures.value ∙ is.0, is.1)
+    (c.as_slice.ensures.value ∙ is.0, is.1)

@@ -1,14 +1,14 @@
-use Rattle.std.proofs.Common.{◌≡◌, ◌<◌, ◌≤◌, length, vec_items, ap, ◌∙◌, arith}
+use Rattle.std.proofs.Common.{◌<◌, ◌≤◌, length, vec_items, ◌∙◌, arith}
 use Rattle.lines.specs.Buffers.{longest}
 use Rattle.lines.proofs.Keeping.{one_more, one_lost}
 use Rattle.lines.proofs.buffer.LineBuffer.push.Goals as goal
 
-pub returns-in-ok-push : goal.returns-in-ok-push
-returns-in-ok-push c line keeps =
+pub returns-in_ok-push : goal.returns-in_ok-push
+returns-in_ok-push c line keeps =
     let self = c.args.self.now in
     let room : length (vec_items self.bytes) < longest = omega (arith, c.len.ensures, self.bytes.ok.0) in
     let is = one_more (vec_items self.bytes) line self.too_long keeps.front keeps.more c.args.byte room in
-    record { front = c.in-ok-push.ensures.items ∙ is.0; more = is.1 }
+    record { front = c.in_ok-push.ensures.items ∙ is.0; more = is.1 }
 
 pub returns-else-len-lt-LONGEST : goal.returns-else-len-lt-LONGEST
 returns-else-len-lt-LONGEST c line keeps =

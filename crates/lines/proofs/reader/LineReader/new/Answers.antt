@@ -1,7 +1,7 @@
-use Rattle.std.proofs.Common.{[], refl}
+use Rattle.std.proofs.Common.{[], refl, rules}
 use Rattle.lines.specs.Words.{has}
 use Rattle.lines.proofs.reader.LineReader.new.Goals as goal
 
 pub returns : goal.returns
 unfolding has
-returns g c = record { line = []; keeps = c.new-2.ensures; clean = refl }
+returns g c = record { line = []; keeps = search rules; clean = refl }

@@ -1,29 +1,29 @@
 use Rattle.std.proofs.Common.{◌≡◌, ◌<◌, ◌≤◌, true, ◌||◌, T, ltb, length, vec_items, sym, refl, ap, ◌∙◌, subst, arith, ltb→lt}
-use Rattle.std.proofs.lemmas.Bool.{eqb-true, lt-ltb}
-use Rattle.model.specs.Names.{is_in, different}
+use Rattle.std.proofs.lemmas.Bool.{eqb-true}
+use Rattle.model.specs.Names.{different}
 use Rattle.model.specs.Thresholds.{members}
 use Rattle.model.proofs.Thresholds.{members-fit}
 use Rattle.rehearsal.specs.Scenes.{is_bad}
 use Rattle.rehearsal.proofs.Noting.{inserted}
 use Rattle.rehearsal.proofs.Setting.{plays_bad, room_found, room_left}
 use Rattle.rehearsal.proofs.committee.Committee.bad.Goals as goal
-use Rattle.rehearsal.proofs.committee.Committee.bad.Goals.{else-not-contains-via-then-not-contains+else-count-most-bad, else-not-contains-via-else-not-contains}
+use Rattle.rehearsal.proofs.committee.Committee.bad.Goals.{else-not-contains-via-then-not-contains+else-count-most_bad, else-not-contains-via-else-not-contains}
 
 pub returns : goal.returns
 returns c s b p =
     let self = c.args.self.now in
     let i = c.args.member in
-    let none : length s.blocks ≡ 0 = sym p.noted ∙ eqb-true (length (vec_items self.notes.notes)) 0 (sym c.if-not-is-empty.ensures) in
-    let member : ltb i (members s.faults) ≡ true = ap (λ f. ltb i (members f)) (sym p.faults) ∙ sym c.if-not-has-member.ensures in
+    let none : length s.blocks ≡ 0 = sym p.noted ∙ eqb-true (length (vec_items self.notes.notes)) 0 (sym c.if-not-is_empty.ensures) in
+    let member : ltb i (members s.faults) ≡ true = ap (λ f. ltb i (members f)) (sym p.faults) ∙ sym c.if-not-has_member.ensures in
     let few : s.faults ≤ 4 = subst (λ f. f ≤ 4) p.faults self.faults.few in
     let fit = members-fit s.faults few in
     let lt = ltb→lt i (members s.faults) (subst T (sym member) tt) in
     let small : i < 64 = omega arith in
     let room : is_bad s i || ltb (different s.bad) s.faults ≡ true =
     elim c.else-not-contains.branch [
-      | else-not-contains-via-then-not-contains+else-count-most-bad w ↦
-          room_left (is_bad s i) (different s.bad) s.faults w.count.result w.most-bad.result w.if-count-most-bad.false (w.count.ensures s.bad p.bad)
-          (w.most-bad.ensures ∙ p.faults)
+      | else-not-contains-via-then-not-contains+else-count-most_bad w ↦
+          room_left (is_bad s i) (different s.bad) s.faults w.count.result w.most_bad.result w.if-count-most_bad.false (w.count.ensures s.bad p.bad)
+          (w.most_bad.ensures ∙ p.faults)
       | else-not-contains-via-else-not-contains w ↦ room_found (is_bad s i) (ltb (different s.bad) s.faults) (sym (w.if-not-contains.ensures s.bad p.bad))
     ] in
     plays_bad s b self _ i p none member room (inserted i self.bad c.insert.new.self c.insert.result small c.insert.ensures s.bad p.bad)

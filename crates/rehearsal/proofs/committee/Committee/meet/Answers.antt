@@ -1,12 +1,12 @@
-use Rattle.std.proofs.Common.{List, length, sym, refl, ap, ◌∙◌, subst}
+use Rattle.std.proofs.Common.{List, length, refl, ap, ◌∙◌, subst}
 use Rattle.book.specs.Books.{blocks, memory}
 use Rattle.book.specs.Meeting.{block_of, Met}
 use Rattle.model.specs.Blocks.{Block}
 use Rattle.rehearsal.proofs.Setting.{plays_grown, met_new}
 use Rattle.rehearsal.proofs.committee.Committee.meet.Goals as goal
 
-pub returns-in-ok-push : goal.returns-in-ok-push
-returns-in-ok-push c =
+pub returns-in_ok-push : goal.returns-in_ok-push
+returns-in_ok-push c =
     let told = c.in-Ok.ensures in
     record {
       plays = λ s p.
@@ -18,7 +18,7 @@ returns-in-ok-push c =
             met,
             plays_grown s c.args.book.now c.meet.new.self c.args.self.now _ k p
                 (met_new (memory c.args.book.now) s.blocks ks k c.in-Ok.name met next) refl refl refl refl
-                c.in-ok-push.ensures.long c.in-ok-push.ensures.noted,
+                c.in_ok-push.ensures.long c.in_ok-push.ensures.noted,
           );
       lent = told.lent;
     }

@@ -4,4 +4,4 @@ use Rattle.rehearsal.proofs.committee.orders.first.Goals as goal
 
 pub returns : goal.returns
 returns c =
-    c.in-ok-front.ensures.items ∙ take_min c.args.count c.args.names.now c.min-count.result c.min-count.ensures
+    c.in_ok-front.ensures.items ∙ take_min c.args.count c.args.names.now c.min-count.result c.min-count.ensures

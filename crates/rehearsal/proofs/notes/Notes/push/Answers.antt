@@ -5,6 +5,6 @@ use Rattle.rehearsal.proofs.notes.Notes.push.Goals as goal
 
 pub returns : goal.returns
 returns c =
-    let told = c.in-ok-push.ensures.items in
+    let told = c.in_ok-push.ensures.items in
     let notes = vec_items c.args.self.now.notes in
     record { long = ap length told ∙ length_push notes c.new.result; noted = note_push notes _ c.new.result c.new.ensures told }

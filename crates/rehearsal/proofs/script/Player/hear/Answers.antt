@@ -6,14 +6,14 @@ use Rattle.rehearsal.specs.Answering.{Responds}
 use Rattle.rehearsal.proofs.Responding.{responds_played}
 use Rattle.rehearsal.proofs.script.Player.hear.Goals as goal
 
-pub returns-in-ok-reply : goal.returns-in-ok-reply
-returns-in-ok-reply c =
+pub returns-in_ok-reply-in-Some : goal.returns-in_ok-reply-in-Some
+returns-in_ok-reply-in-Some c =
     let l = memory c.args.book.now in
     let first = c.args.self.now.opening in
-    let reply = c.in-ok-reply.reply in
+    let reply = c.in_ok-reply-in-Some.reply in
     let book = c.respond.new.book in
     let committee = c.respond.new.self.committee in
-    let told = c.in-ok-reply.ensures in
+    let told = c.in_ok-reply-in-Some.ensures in
     record {
       played = responds_played l c.requires.0 first c.in-Some.bytes.now reply book committee (told c.requires.0 c.requires.1);
       heard = λ s p.

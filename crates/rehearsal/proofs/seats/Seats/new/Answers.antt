@@ -8,4 +8,4 @@ loop-i-init c = sit_none (vec_items c.new-seats.result) c.new-seats.ensures.item
 pub loop-i-preserved : goal.loop-i-preserved
 loop-i-preserved c =
     sit_push c.loop-i.i (vec_items c.loop-i.seats) (vec_items c.push.new.self) c.fresh.result c.loop-i.invariant
-    c.fresh.ensures.holds c.fresh.ensures.number c.in-ok-push.ensures.items
+    c.fresh.ensures.holds c.fresh.ensures.number c.in_ok-push.ensures.items

@@ -1,4 +1,4 @@
-use Rattle.std.proofs.Common.{◌≡◌, ◌≤◌, length, arith}
+use Rattle.std.proofs.Common.{◌≤◌, length, arith}
 use Rattle.std.proofs.lemmas.Slice.{between_to_end}
 use Rattle.replica.proofs.names.NameList.as_slice.Goals as goal
 

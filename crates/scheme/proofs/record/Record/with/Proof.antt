@@ -1,9 +1,9 @@
 -- `with` makes a record of one message more. Assumes nothing.
-use Rattle.std.proofs.Common.{ℕ, ◌^◌, ◌<◌, List, [], ◌∷◌, ◌++◌, length, refl}
+use Rattle.std.proofs.Common.{◌^◌, ◌<◌, List, [], ◌∷◌, ◌++◌, length, refl}
 use seplogic.Ra.Ura.{Ura}
 use mir.Syntax.{Fn, named}
 use mir.Val.{Val, vstruct, vnil}
-use base.Logic.{SProp, ent, sep, emp, via, fst∗}
+use base.Logic.{SProp, ent, sep}
 use prog.Memory.{Memory}
 use prog.Routine.{Routine}
 use prog.Wp.{Calls, Loops, WpFn, Tables}
@@ -11,11 +11,10 @@ use types.Logic.{Logic, sem}
 use contract.Monad.{Fun}
 use contract.Running.{tables, tables_of}
 use sound.WpLaws.{WpFn-mono}
-use types.Kit.{‵, raw, ◌⊛◌, ◌$◌, ◌∵◌, !, qed, by, move, keep, split, join, fsplit, fjoin, suffices, done, feq_i, fpack}
+use types.Kit.{‵, raw, ◌⊛◌, ◌$◌, ◌∵◌, !, qed, by, move, keep, split, join, fjoin, suffices, done, feq_i, fpack}
 use types.Run.{returns, enter, no_more}
 use types.Part.{agg}
 use types.ByLocal.{alloc_all, pass_all, free_all, look_at, sets}
-use contract.Lifetimes.{Lfts}
 use denote.Builtin.{u8}
 use denote.Exit.{yes}
 use denote.RattleType.{owns, Valss}
@@ -96,9 +95,9 @@ module _ {M : Type 1} {𝓤 : Ura M} (𝓛 : Logic 𝓤) (mem : Memory → SProp
       (λ κs. (shr_Tells (named 0) κs.0 the_row, (shr_slice_Tells (named 1) κs.1.0 u8, tt)))
       (λ κs qs bounds a g are. walks 𝓣.C 𝓣.Λ ((κs, qs, bounds, a, (shr_vals a.0, (shr_slice_vals a.1.0, tt))), g) are.1.0.0.1.0))
 
-pub with-spec : {M : Type 1} → stated.statement M
+pub with_spec : {M : Type 1} → stated.statement M
 unfolding tables_of
-with-spec 𝓤 𝓛 𝓜 𝓡 wired =
+with_spec 𝓤 𝓛 𝓜 𝓡 wired =
     let A = 𝓛.A in
     let c = clauses 𝓛 𝓜.mem 𝓡.returns in
     let 𝓣 : Tables 𝓤 𝓛.H = tables_of 𝓤 𝓛.H 𝓜 (tables 𝓤 𝓛.H 𝓜 𝓡 𝓡.env) in

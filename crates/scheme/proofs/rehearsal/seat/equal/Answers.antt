@@ -2,9 +2,9 @@ use Rattle.std.proofs.Common.{◌≡◌, ◌<◌, length, sym, ◌∙◌, arith}
 use Rattle.scheme.proofs.Bytes.{same_lengths, compared_on, compared_all}
 use Rattle.scheme.proofs.rehearsal.seat.equal.Goals as goal
 
-pub returns-then-given-ne-SIGNATURE-LENGTH : goal.returns-then-given-ne-SIGNATURE-LENGTH
-returns-then-given-ne-SIGNATURE-LENGTH c =
-    sym (same_lengths c.args.given.now c.args.right.now (λ e. c.if-given-ne-SIGNATURE-LENGTH.true (e ∙ c.told-right)))
+pub returns-then-given-ne-SIGNATURE_LENGTH : goal.returns-then-given-ne-SIGNATURE_LENGTH
+returns-then-given-ne-SIGNATURE_LENGTH c =
+    sym (same_lengths c.args.given.now c.args.right.now (λ e. c.if-given-ne-SIGNATURE_LENGTH.true (e ∙ c.told-right)))
 
 pub loop-i-preserved : goal.loop-i-preserved
 loop-i-preserved c =

@@ -24,7 +24,7 @@ returns-in-Some c =
     let there : m < length ks = subst (λ (n : ℕ). m < n) (sym (length-map items bytes)) within in
     let own : secret_at ks m ≡ bytes s = secret_at_lem items m s within (found.1 ∙ ap (λ (xs : List Secret). get_or xs m s) items-are) in
     let value : c.equal.result ≡ right_for ks m x given =
-    c.equal.ensures ∙ ap (same given) c.signature-by.ensures ∙ right_there ks m x given (bytes s) there own in
+    c.equal.ensures ∙ ap (same given) c.signature_by.ensures ∙ right_there ks m x given (bytes s) there own in
     record {
       value = value;
       long = λ e. right_long ks m x given (sym value ∙ e);

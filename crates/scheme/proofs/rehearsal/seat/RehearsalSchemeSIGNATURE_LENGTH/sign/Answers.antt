@@ -20,8 +20,8 @@ returns c =
     let within : m < length items = subst (λ (n : ℕ). m < n) c.args.self.now.keys.secrets.ok.0 c.args.self.now.seated in
     let there : m < length ks = subst (λ (n : ℕ). m < n) (sym (length-map items bytes)) within in
     let own : secret_at ks m ≡ bytes s = secret_at_lem items m s within c.index.ensures in
-    let made : c.signature-by-signature.result ≡ sha3_512 (secret_at ks m ++ x)
-    = c.signature-by-signature.ensures ∙ ap (λ (b : List ℕ). sha3_512 (b ++ x)) (sym own) in
+    let made : c.signature_by-signature.result ≡ sha3_512 (secret_at ks m ++ x)
+    = c.signature_by-signature.ensures ∙ ap (λ (b : List ℕ). sha3_512 (b ++ x)) (sym own) in
     record {
       value = ap Some made;
       accepted = ap (right_for ks m x) made ∙ right_own ks m x there;

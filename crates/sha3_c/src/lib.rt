@@ -1,9 +1,10 @@
-//! The functions for programs of other languages that link `libsha3.a`.
+//! SHA3-256 and SHA3-512 for programs of other languages, which link this static library.
+#![tactic(auto)]
 
 ghost use Rattle.std.specs.Prelude.{◌≡◌};
 ghost use Rattle.sha3.specs.Sponge.{sha3_256, sha3_512};
 
-use crate::{LENGTH_256, LENGTH_512, sha3_256, sha3_512};
+use sha3::{LENGTH_256, LENGTH_512, sha3_256, sha3_512};
 
 /// Writes SHA3-256 of `bytes` to `digest`.
 #[unsafe(no_mangle)]
