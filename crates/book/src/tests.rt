@@ -2,7 +2,7 @@
 use crate::{Book, Entry, Refusal};
 use std::process::Abort;
 
-// who lends the memory doesn't read the book: the borrow checker doesn't cover both in one function yet
+// as in our programs, who lends the memory passes the book on by reference, and it is read there
 #[test]
 fn a_block_met_twice_has_one_name(rt: HostRuntime) {
     let mut entries = [Entry::EMPTY; 4];

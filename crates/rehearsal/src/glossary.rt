@@ -75,7 +75,7 @@ impl Glossary {
 
     /// One more word.
     pub fn add(&mut self, heap: Global, text: &[u8], name: u32) -> Result<(), AllocError>
-        ensures { OnOk result (namings self.new ≡ namings self.old ++ (record { text = text.entry.now; name = name } ∷ [])) }
+        ensures { OnOk result (namings self.new ≡ namings self.old ++ (record { text = text.now; name = name } ∷ [])) }
     {
         let text = Vec::from_slice(heap, text)?;
         self.words.push(Word { text, name })?;

@@ -34,8 +34,7 @@ impl<'a> Book<'a> {
         self.tables.count as u32
     }
 
-    /// The blocks, for reading. Call it where the book came in by reference: in the function that lends the memory the borrow checker doesn't
-    /// cover it yet.
+    /// The blocks, for reading.
     pub fn view(&self) -> View<'_>
         ensures { held result ≡ blocks self.now }
     {
