@@ -1,6 +1,6 @@
 -- Small cases, computed. In all but the last f = 1, members 0 to 3, a block's name is 4 times its round and its author, and a block has all blocks
 -- of the round before as parents unless said otherwise. Assumes nothing.
-use Rattle.std.specs.Prelude.{◌≡◌, true, false, cond, ◌||◌, List, [], ◌∷◌, ◌++◌, ℕ, zero, suc, ◌+◌, ◌-◌, ◌*◌, ◌/◌, ◌%◌, eqb, ltb}
+use Rattle.std.specs.Prelude.{◌≡◌, true, false, cond, ◌||◌, List, [], ◌∷◌, ◌++◌, ℕ, zero, suc, ◌+◌, ◌-◌, ◌*◌, ◌/◌, ◌%◌, ◌==◌, nat_lt}
 use Rattle.model.specs.Blocks.{Block, Book, valid}
 use Rattle.model.specs.Order.{anchors_of, order}
 use Rattle.model.specs.Member.{Member, after_sign}
@@ -12,7 +12,7 @@ whole_round r = (4 * r) ∷ (4 * r + 1) ∷ (4 * r + 2) ∷ (4 * r + 3) ∷ []
 
 -- the block of that name, with these parents unless its round is 0
 abbrev pub block : ℕ → List ℕ → Block
-block x parents = record { author = x % 4; round = x / 4; parents = cond (ltb x 4) [] parents; load = [] }
+block x parents = record { author = x % 4; round = x / 4; parents = cond (nat_lt x 4) [] parents; load = [] }
 
 -- every block has all of the round before as parents
 abbrev pub all_parents : Book
@@ -29,8 +29,8 @@ VotedLeaderIsOrdered = order 1 all_parents three_of_round1 ≡ 0 ∷ []
 -- of round 1 only 2.1 has 0.0 as a parent; round 2 has the three blocks 0.1, 1.1 and 2.1 as parents
 abbrev pub one_voter : Book
 one_voter x =
-    cond (eqb x 4 || eqb x 5 || eqb x 7) (block x (1 ∷ 2 ∷ 3 ∷ []))
-    (cond (eqb (x / 4) 2) (block x (4 ∷ 5 ∷ 6 ∷ [])) (all_parents x))
+    cond (x == 4 || x == 5 || x == 7) (block x (1 ∷ 2 ∷ 3 ∷ []))
+    (cond (x / 4 == 2) (block x (4 ∷ 5 ∷ 6 ∷ [])) (all_parents x))
 
 -- The same web, but with one vote for 0.0, where two are needed: nothing is ordered.
 abbrev pub OneVoteOrdersNothing : Type 0
@@ -48,7 +48,7 @@ LaterAnchorBringsUnvotedLeader =
 
 -- all four blocks of round 1 are there, and 1.2 has as parents just the three without 0.0
 abbrev pub leader_unreached : Book
-leader_unreached x = cond (eqb x 9) (block 9 (4 ∷ 5 ∷ 7 ∷ [])) (cond (eqb (x / 4) 2) (block x (whole_round 1)) (one_voter x))
+leader_unreached x = cond (x == 9) (block 9 (4 ∷ 5 ∷ 7 ∷ [])) (cond (x / 4 == 2) (block x (whole_round 1)) (one_voter x))
 
 -- the first four rounds whole
 abbrev pub all_to3 : List ℕ
@@ -67,7 +67,7 @@ abbrev pub other : ℕ
 other = 1000
 
 abbrev pub with_other : Book
-with_other x = cond (eqb x other) (record { author = 1; round = 5; parents = whole_round 4; load = 1 ∷ [] }) (all_parents x)
+with_other x = cond (x == other) (record { author = 1; round = 5; parents = whole_round 4; load = 1 ∷ [] }) (all_parents x)
 
 -- a member that has signed these
 abbrev pub having_signed : List ℕ → Member
@@ -100,7 +100,7 @@ on_parents parents = record { author = 0; round = 2; parents = parents; load = [
 
 -- two blocks of author 1 and round 1 (0.1 and 2.1 are 4 and 6; 5 is 1.1 and 1001 another one)
 abbrev pub with_twin : Book
-with_twin x = cond (eqb x 1001) (record { author = 1; round = 1; parents = whole_round 0; load = 1 ∷ [] }) (all_parents x)
+with_twin x = cond (x == 1001) (record { author = 1; round = 1; parents = whole_round 0; load = 1 ∷ [] }) (all_parents x)
 
 -- Three parents of the round before by three authors make a valid block; by two authors they don't, nor do two authors and an older block; nor
 -- has a block a parent twice, or one of its own round.
@@ -116,7 +116,7 @@ pub record ParentsByDifferentAuthors : Type 0 where
 
 -- one member, its blocks one after the other; a block's name is its round
 abbrev pub chain : Book
-chain x = record { author = 0; round = x; parents = cond (eqb x 0) [] ((x - 1) ∷ []); load = [] }
+chain x = record { author = 0; round = x; parents = cond (x == 0) [] ((x - 1) ∷ []); load = [] }
 
 -- the web of the blocks 0 to n, the latest first
 unfoldable pub chain_to : ℕ → List ℕ

@@ -1,5 +1,5 @@
 -- What one member holds, what it may sign, take in and make, and what it holds afterwards. Assumes nothing.
-use Rattle.std.specs.Prelude.{Bool, false, cond, ◌&&◌, ◌||◌, not, List, [], ◌∷◌, ℕ, ◌+◌, eqb}
+use Rattle.std.specs.Prelude.{Bool, false, cond, ◌&&◌, ◌||◌, not, List, [], ◌∷◌, ℕ, ◌+◌, ◌==◌}
 use Rattle.model.specs.Names.{is_in, all_in}
 use Rattle.model.specs.Blocks.{Book, valid}
 
@@ -16,7 +16,7 @@ new_member = record { web = []; signed = []; round = 0 }
 -- a rival of x, another block of its author and round, stands in the list
 unfoldable pub rival : Book → ℕ → List ℕ → Bool
 rival b x [] = false
-rival b x (y ∷ ys) = (not (eqb x y) && eqb (b x).author (b y).author && eqb (b x).round (b y).round) || rival b x ys
+rival b x (y ∷ ys) = (not (x == y) && (b x).author == (b y).author && (b x).round == (b y).round) || rival b x ys
 
 -- It may sign a block that is valid, that is genuine (its author really made it), and of which it has signed no rival.
 abbrev pub signable : ℕ → Book → Bool → ℕ → Member → Bool
@@ -28,7 +28,7 @@ takable b certified x m = certified && all_in (b x).parents m.web && not (is_in 
 
 -- Member i may make a block that is valid, its own, of its next round, and builds on its web.
 abbrev pub makable : ℕ → Book → ℕ → ℕ → Member → Bool
-makable f b i x m = valid f b (b x) && eqb (b x).author i && eqb (b x).round m.round && all_in (b x).parents m.web
+makable f b i x m = valid f b (b x) && (b x).author == i && (b x).round == m.round && all_in (b x).parents m.web
 
 -- to sign again what is signed changes nothing
 abbrev pub after_sign : ℕ → Member → Member

@@ -1,6 +1,6 @@
 -- That the promise isn't empty: a run after which blocks of all good members are ordered, one in which too many bad members break it, and a book
 -- that has a name for every block. Assumes nothing.
-use Rattle.std.specs.Prelude.{◌≡◌, Bool, false, ◌||◌, List, [], ◌∷◌, ℕ, T, eqb}
+use Rattle.std.specs.Prelude.{◌≡◌, Bool, false, ◌||◌, List, [], ◌∷◌, ℕ, T, ◌==◌}
 use Rattle.model.specs.Thresholds.{members, bad_count}
 use Rattle.model.specs.Blocks.{Block, Book}
 use Rattle.model.specs.World.{Event, good, order_of}
@@ -9,7 +9,7 @@ use Rattle.model.specs.Promise.{Begins}
 -- a block of member i stands in the list
 unfoldable pub has_block_of : Book → ℕ → List ℕ → Bool
 has_block_of b i [] = false
-has_block_of b i (x ∷ xs) = eqb (b x).author i || has_block_of b i xs
+has_block_of b i (x ∷ xs) = (b x).author == i || has_block_of b i xs
 
 -- With f = 1 and one bad member there is a run after which every good member's order holds a block of each good member.
 abbrev pub SomethingIsOrdered : Type 0

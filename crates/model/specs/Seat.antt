@@ -1,5 +1,5 @@
 -- The answers of a seat, one member's program, which has bounded room; what it asks of the web that it reads its order off. Assumes nothing.
-use Rattle.std.specs.Prelude.{Bool, true, cond, ◌&&◌, not, List, [], ◌∷◌, ℕ, zero, suc, ◌^◌, eqb, leb, length}
+use Rattle.std.specs.Prelude.{Bool, true, cond, ◌&&◌, not, List, [], ◌∷◌, ℕ, zero, suc, ◌^◌, ◌==◌, nat_le, length}
 use Rattle.model.specs.Blocks.{Book, valid}
 use Rattle.model.specs.Member.{Member, rival, signable, takable, makable}
 
@@ -12,13 +12,13 @@ abbrev pub round_limit : ℕ
 round_limit = 2 ^ 20
 
 abbrev pub full_signed : Member → Bool
-full_signed m = leb seat_limit (length m.signed)
+full_signed m = nat_le seat_limit (length m.signed)
 
 abbrev pub full_web : Member → Bool
-full_web m = leb seat_limit (length m.web)
+full_web m = nat_le seat_limit (length m.web)
 
 abbrev pub full_round : Member → Bool
-full_round m = leb round_limit m.round
+full_round m = nat_le round_limit m.round
 
 -- the answers to sign, take and make
 abbrev pub done : ℕ
@@ -46,7 +46,7 @@ make_answer f b i x m = answer (makable f b i x m) (full_round m)
 
 -- what isn't answered by `done` changes nothing
 abbrev pub after : ℕ → Member → Member → Member
-after given new old = cond (eqb given done) new old
+after given new old = cond (given == done) new old
 
 -- what reading the order asks of a web, besides that it is whole: valid blocks, and no two of one author and round. Every good member's web is so.
 unfoldable pub fit : ℕ → Book → List ℕ → Bool

@@ -1,6 +1,6 @@
 -- A committee: its members, all signatures ever given, and events that come in any order, since the line between members brings anything,
 -- any time, twice, late or never. What may not happen changes nothing, so every list of events is a run. Assumes nothing.
-use Rattle.std.specs.Prelude.{Bool, cond, ◌&&◌, ◌||◌, not, List, [], ◌∷◌, ℕ, zero, suc, eqb, ltb, leb, get_or, set}
+use Rattle.std.specs.Prelude.{Bool, cond, ◌&&◌, ◌||◌, not, List, [], ◌∷◌, ℕ, zero, suc, ◌==◌, nat_lt, nat_le, get_or, set}
 use Rattle.model.specs.Names.{is_in, different}
 use Rattle.model.specs.Thresholds.{members, quorum}
 use Rattle.model.specs.Blocks.{Book}
@@ -31,16 +31,16 @@ member_at i w = get_or w.all i new_member
 
 -- a good member: one of the committee that isn't bad
 abbrev pub good : ℕ → (ℕ → Bool) → ℕ → Bool
-good f bad i = ltb i (members f) && not (bad i)
+good f bad i = nat_lt i (members f) && not (bad i)
 
 -- who signed x
 unfoldable pub signers : ℕ → List Signature → List ℕ
 signers x [] = []
-signers x (s ∷ ss) = cond (eqb x s.name) (s.who ∷ signers x ss) (signers x ss)
+signers x (s ∷ ss) = cond (x == s.name) (s.who ∷ signers x ss) (signers x ss)
 
 -- a block is certified when a quorum of different members has signed it
 abbrev pub certified : ℕ → ℕ → World → Bool
-certified f x w = leb (quorum f) (different (signers x w.signatures))
+certified f x w = nat_le (quorum f) (different (signers x w.signatures))
 
 -- a block is really made by its author: a good one made it, or the author is bad, whose blocks all count as made
 abbrev pub genuine : Book → (ℕ → Bool) → ℕ → World → Bool
@@ -74,7 +74,7 @@ step f b bad (Signs i x) w =
 step f b bad (Takes i x) w =
     let m = member_at i w in
     cond (good f bad i && takable b (certified f x w) x m) (with_member i (after_take x m) w) w
-step f b bad (Forges i x) w = cond (ltb i (members f) && bad i) (with_signature i x w) w
+step f b bad (Forges i x) w = cond (nat_lt i (members f) && bad i) (with_signature i x w) w
 
 -- the world after a list of events, the latest first
 unfoldable pub world : ℕ → Book → (ℕ → Bool) → List Event → World

@@ -1,5 +1,5 @@
 -- The bytes of messages: blocks, signatures and asks. All numbers are written lowest byte first. Assumes nothing.
-use Rattle.std.specs.Prelude.{◌≡◌, List, [], ◌∷◌, ◌++◌, Bool, true, ◌&&◌, ℕ, zero, suc, ◌/◌, ◌%◌, ◌^◌, T, eqb, ltb, leb, length}
+use Rattle.std.specs.Prelude.{◌≡◌, List, [], ◌∷◌, ◌++◌, Bool, true, ◌&&◌, ℕ, zero, suc, ◌/◌, ◌%◌, ◌^◌, T, ◌==◌, nat_lt, nat_le, length}
 use Rattle.model.specs.Names.{all_below}
 use Rattle.model.specs.Blocks.{max_parents, max_load, byte_limit}
 
@@ -47,7 +47,7 @@ message_bytes (Asks hash) = 65 ∷ hash
 
 -- so many bytes
 abbrev pub is_bytes : ℕ → List ℕ → Bool
-is_bytes n bytes = eqb (length bytes) n && all_below byte_limit bytes
+is_bytes n bytes = length bytes == n && all_below byte_limit bytes
 
 unfoldable pub all_hashes : List (List ℕ) → Bool
 all_hashes [] = true
@@ -56,13 +56,13 @@ all_hashes (h ∷ hs) = is_bytes hash_length h && all_hashes hs
 -- a block that can be written
 unfoldable pub writable : WireBlock → Bool
 writable k =
-    ltb k.author 256 && ltb k.round (2 ^ 32) && leb (length k.parents) max_parents && all_hashes k.parents
-    && leb (length k.load) max_load && all_below byte_limit k.load
+    nat_lt k.author 256 && nat_lt k.round (2 ^ 32) && nat_le (length k.parents) max_parents && all_hashes k.parents
+    && nat_le (length k.load) max_load && all_below byte_limit k.load
 
 -- a message that can be written, where signatures have so many bytes
 unfoldable pub sendable : ℕ → Message → Bool
 sendable long (SaysBlock k signature) = writable k && is_bytes long signature
-sendable long (SaysSigned who hash signature) = ltb who 256 && is_bytes hash_length hash && is_bytes long signature
+sendable long (SaysSigned who hash signature) = nat_lt who 256 && is_bytes hash_length hash && is_bytes long signature
 sendable long (Asks hash) = is_bytes hash_length hash
 
 -- These bytes are this message, where signatures have so many bytes.
