@@ -6,9 +6,9 @@ use Rattle.order_theory.proofs.Steps.{marked_is}
 use Rattle.order_theory.proofs.Main.{written_by_lem}
 use Rattle.order.proofs.read_order.Goals as goal
 
-members-is : (f : ℕ) → 3 * f + 1 ≡ members f
+members_is : (f : ℕ) → 3 * f + 1 ≡ members f
 unfolding members
-members-is f = refl
+members_is f = refl
 
 pub returns-in-None : goal.returns-in-None
 returns-in-None g c =
@@ -18,7 +18,7 @@ returns-in-None g c =
     let r =
     written_by_lem f b web c.requires.whole c.requires.once c.requires.fits c.requires.few c.requires.room (3 * f + 1)
     c.enter.new.names c.enter.new.marks
-    (c.last_round.result / 2 + 1) None (members-is f) c.enter.ensures.named c.enter.ensures.marked
+    (c.last_round.result / 2 + 1) None (members_is f) c.enter.ensures.named c.enter.ensures.marked
     (ap (λ (k : ℕ). k / 2 + 1) c.last_round.ensures) c.in-None.ensures.last in
     record { count = ap (λ w. w.count) r; listed = ap (λ w. w.out) r }
 
@@ -32,7 +32,7 @@ returns-in-Some g c =
     let marks = c.enter.new.marks in
     let r =
     written_by_lem f b web c.requires.whole c.requires.once c.requires.fits c.requires.few c.requires.room n names marks
-    (c.last_round.result / 2 + 1) (Some c.in-Some.k) (members-is f) c.enter.ensures.named c.enter.ensures.marked
+    (c.last_round.result / 2 + 1) (Some c.in-Some.k) (members_is f) c.enter.ensures.named c.enter.ensures.marked
     (ap (λ (k : ℕ). k / 2 + 1) c.last_round.ensures) c.in-Some.ensures.last in
     let t =
     marked_is (marked_from n b c.in-Some.k names marks) c.mark_from-anchors.new.marks c.mark_from-anchors.result
