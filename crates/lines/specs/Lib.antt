@@ -3,3 +3,4 @@ pub mod Left
 pub mod Numbers
 pub mod Hex
 pub mod Buffers
+pub mod Chunks

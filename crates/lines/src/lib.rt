@@ -2,6 +2,7 @@
 #![tactic(auto)]
 
 pub mod buffer;
+mod chunks;
 pub mod hex;
 pub mod numbers;
 pub mod reader;

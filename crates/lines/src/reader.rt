@@ -1,28 +1,20 @@
 // The lines of an input, one after the other.
 ghost use Rattle.std.specs.Prelude.{◌≡◌, ℕ, ◌<◌, ◌≤◌, List, length, Some, None, OnOk};
 ghost use Rattle.lines.specs.Buffers.{longest, Keeps, HoldsLine};
-ghost use Rattle.lines.specs.declared.reader.TheConstants.{CHUNK};
 
 use crate::buffer::LineBuffer;
+use crate::chunks::Chunks;
 use std::alloc::Global;
 use std::io;
 use std::io::Read;
 
 const LINE_END: u8 = b'\n';
 
-// So many bytes of the input are read at once.
-const CHUNK: usize = 4096;
-
 /// Reads lines, which are bytes and end with a line feed; the last one may lack it.
 #[derive(Drop)]
 pub struct LineReader<R> {
-    input: R,
-    chunk: [u8; CHUNK],
-    at: usize,
-    filled: usize,
+    input: Chunks<R>,
     line: LineBuffer,
-    ghost passed: { at ≤ filled },
-    ghost fits: { filled ≤ CHUNK },
 }
 
 impl<R: Read> LineReader<R> {
@@ -31,10 +23,7 @@ impl<R: Read> LineReader<R> {
         ensures { HoldsLine result.line }
     {
         LineReader {
-            input,
-            chunk: [0; CHUNK],
-            at: 0,
-            filled: 0,
+            input: Chunks::new(input),
             line: LineBuffer::new(heap),
         }
     }
@@ -45,15 +34,9 @@ impl<R: Read> LineReader<R> {
     {
         self.line.clear();
         for _ in 0..u64::MAX {
-            if self.at == self.filled {
-                self.filled = self.input.read(&mut self.chunk)?;
-                self.at = 0;
-                if self.filled == 0 {
-                    return Ok(!self.line.is_empty());
-                }
-            }
-            let byte = self.chunk[self.at];
-            self.at += 1;
+            let Some(byte) = self.input.next_byte()? else {
+                return Ok(!self.line.is_empty());
+            };
             if byte == LINE_END {
                 return Ok(true);
             }
