@@ -7,6 +7,7 @@ pub mod Member
 pub mod World
 pub mod Seat
 pub mod Promise
+pub mod Reading
 pub mod Cases
 pub mod Renaming
 pub mod Runs
