@@ -9,6 +9,7 @@ ghost use Rattle.model.specs.Seat.{fit, padded, seat_limit};
 ghost use Rattle.order_bench.specs.Slices.{no_entry, block_of, sliced};
 
 use book::library::Library;
+use members::Faults;
 use order::read_order;
 
 /// A block: its author and round, where its parents start, and how many there are.
@@ -79,6 +80,13 @@ impl<'a> Library for Slices<'a> {
     }
 }
 
+fn committee_of(f: u32) -> Faults
+    requires { f ≤ 4 }
+    ensures { result.f ≡ f }
+{
+    Faults::new(f).unwrap()
+}
+
 /// The order of the web, at the front of `out`, and how long it is.
 #[unsafe(no_mangle)]
 pub extern "C" fn order_read<'a>(
@@ -97,5 +105,5 @@ pub extern "C" fn order_read<'a>(
     ensures listed { out.new ≡ padded 4096 (order f (sliced entries.now all.now) web.now) }
 {
     let book = Slices { entries, all };
-    read_order(&book, f, web, out)
+    read_order(&book, committee_of(f), web, out)
 }
