@@ -1,10 +1,12 @@
 // The seat of one member. Its lists have their room in themselves, so no call can fail for want of memory.
-ghost use Rattle.std.specs.Prelude.{◌≡◌, ◌≤◌};
+ghost use Rattle.std.specs.Prelude.{◌≡◌};
+ghost use Rattle.model.specs.Seat.{answer};
+ghost use Rattle.replica.specs.Answers.{number_of};
 ghost use Rattle.replica.specs.Lists.{items};
 
 use crate::checks::{may_make, may_sign, may_take};
 use crate::names::NameList;
-use crate::seat::{Answer, Seat};
+use crate::seat::{Denied, Seat};
 use book::library::Library;
 use members::Faults;
 use order::read_order;
@@ -25,15 +27,17 @@ pub struct Replica {
 /// No block is made for this round or a later one.
 const ROUND_LIMIT: u32 = 1 << 20;
 
-/// The committee for f bad members.
-fn committee(f: u32) -> Faults
-    requires { f ≤ 4 }
-    ensures { result.f ≡ f }
+/// That a call may be done and there is room; that it may not is looked for before that there is no room.
+fn allowed(may: bool, full: bool) -> Result<(), Denied>
+    ensures { number_of result ≡ answer may full }
 {
-    match Faults::new(f) {
-        Ok(faults) => faults,
-        Err(_) => unreachable(),
+    if !may {
+        return Err(Denied::MayNot);
     }
+    if full {
+        return Err(Denied::NoRoom);
+    }
+    Ok(())
 }
 
 impl Seat for Replica {
@@ -53,50 +57,38 @@ impl Seat for Replica {
     fn sign<B: Library>(
         &mut self,
         book: &B,
-        f: u32,
+        faults: Faults,
         name: u32,
         genuine: bool,
-    ) -> Answer<LeaveToSign> {
-        if !may_sign(book, committee(f), name, genuine, self.signed.as_slice()) {
-            return Answer::MayNot;
-        }
-        if self.signed.is_full() {
-            return Answer::NoRoom;
-        }
+    ) -> Result<LeaveToSign, Denied> {
+        let may = may_sign(book, faults, name, genuine, self.signed.as_slice());
+        allowed(may, self.signed.is_full())?;
         self.signed.insert(name);
-        Answer::Done(LeaveToSign::give(self.number, name))
+        Ok(LeaveToSign::give(self.number, name))
     }
 
-    fn take<B: Library>(&mut self, book: &B, name: u32, certified: bool) -> Answer<()> {
-        if !may_take(book, name, certified, self.web.as_slice()) {
-            return Answer::MayNot;
-        }
-        if self.web.is_full() {
-            return Answer::NoRoom;
-        }
+    fn take<B: Library>(&mut self, book: &B, name: u32, certified: bool) -> Result<(), Denied> {
+        let may = may_take(book, name, certified, self.web.as_slice());
+        allowed(may, self.web.is_full())?;
         self.web.push(name);
-        Answer::Done(())
+        Ok(())
     }
 
-    fn make<B: Library>(&mut self, book: &B, f: u32, name: u32) -> Answer<()> {
-        if !may_make(
+    fn make<B: Library>(&mut self, book: &B, faults: Faults, name: u32) -> Result<(), Denied> {
+        let may = may_make(
             book,
-            committee(f),
+            faults,
             self.number,
             self.round,
             name,
             self.web.as_slice(),
-        ) {
-            return Answer::MayNot;
-        }
-        if self.round >= ROUND_LIMIT {
-            return Answer::NoRoom;
-        }
+        );
+        allowed(may, self.round >= ROUND_LIMIT)?;
         self.round += 1;
-        Answer::Done(())
+        Ok(())
     }
 
-    fn order<B: Library>(&self, book: &B, f: u32, out: &mut [u32; 4096]) -> u32 {
-        read_order(book, f, self.web.as_slice(), out)
+    fn order<B: Library>(&self, book: &B, faults: Faults, out: &mut [u32; 4096]) -> u32 {
+        read_order(book, faults.most_bad(), self.web.as_slice(), out)
     }
 }

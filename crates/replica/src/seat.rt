@@ -1,25 +1,39 @@
 // The trait of seats: the calls of one member's program, each by what the member holds before and after.
-ghost use Rattle.std.specs.Prelude.{◌≡◌, ℕ, ◌≤◌, T, length};
-ghost use Rattle.model.specs.Names.{distinct};
+ghost use Rattle.std.specs.Prelude.{◌≡◌, ℕ, Some, length};
 ghost use Rattle.model.specs.Order.{order};
+ghost use Rattle.model.specs.Reading.{Readable};
 ghost use Rattle.model.specs.Member.{Member, new_member, signable, takable, makable, after_sign, after_take, after_make};
-ghost use Rattle.model.specs.Seat.{seat_limit, answer, after, full_signed, full_web, full_round, fit, padded};
-ghost use Rattle.model.specs.Promise.{whole_all};
-ghost use Rattle.replica.specs.Answers.{number_of, LeaveFor};
+ghost use Rattle.model.specs.Seat.{answer, after, full_signed, full_web, full_round, padded};
+ghost use Rattle.replica.specs.Answers.{number_of, told, LeaveFor};
 
 use crate::replica::LeaveToSign;
 use book::library::Library;
+use members::Faults;
+use std::error::Error;
+use std::fmt;
 
-/// The answers of a seat: done, with what the call gives; that it may not be done; that there is no room. That it may not is looked for
-/// before that there is no room, and what isn't done changes nothing.
-#[derive(Drop)]
-pub enum Answer<T> {
-    Done(T),
+/// Why a seat doesn't do what it is asked: it may not be done, or there is no room. That it may not is looked for before that there is no
+/// room, and what isn't done changes nothing.
+#[derive(Clone, Copy, Debug, PartialEq, Eq)]
+pub enum Denied {
     MayNot,
     NoRoom,
 }
 
-/// A seat; `me` is what the member holds, `number` which member it is. Up to f members may be bad, and f comes with the calls.
+impl fmt::Display for Denied {
+    ghost output = { λ denied. Some (told denied) };
+
+    fn fmt<W: fmt::Write>(&self, f: &mut fmt::Formatter<W>) -> fmt::Result {
+        match self {
+            Denied::MayNot => write!(f, "it may not be done"),
+            Denied::NoRoom => write!(f, "there is no room"),
+        }
+    }
+}
+
+impl Error for Denied {}
+
+/// A seat; `me` is what the member holds, `number` which member it is. How many members may be bad comes with the calls.
 pub trait Seat {
     ghost me: { Self → Member };
 
@@ -35,40 +49,34 @@ pub trait Seat {
     fn sign<B: Library>(
         &mut self,
         book: &B,
-        f: u32,
+        faults: Faults,
         name: u32,
         genuine: bool,
-    ) -> Answer<LeaveToSign>
-        requires { f ≤ 4 }
-        ensures answers { number_of result ≡ answer (signable f (B.Library.what book.now) genuine name (me self.old))
+    ) -> Result<LeaveToSign, Denied>
+        ensures answers { number_of result ≡ answer (signable faults.f (B.Library.what book.now) genuine name (me self.old))
             (full_signed (me self.old)) }
         ensures leaves { LeaveFor (number self.old) name result }
         ensures holds { me self.new ≡ after (number_of result) (after_sign name (me self.old)) (me self.old) }
         ensures number { number self.new ≡ number self.old };
 
     /// To take in a block; `certified` says whether a quorum of members signed it.
-    fn take<B: Library>(&mut self, book: &B, name: u32, certified: bool) -> Answer<()>
+    fn take<B: Library>(&mut self, book: &B, name: u32, certified: bool) -> Result<(), Denied>
         ensures answers { number_of result ≡ answer (takable (B.Library.what book.now) certified name (me self.old))
             (full_web (me self.old)) }
         ensures holds { me self.new ≡ after (number_of result) (after_take name (me self.old)) (me self.old) }
         ensures number { number self.new ≡ number self.old };
 
     /// To make a block, of the member's next round.
-    fn make<B: Library>(&mut self, book: &B, f: u32, name: u32) -> Answer<()>
-        requires { f ≤ 4 }
-        ensures answers { number_of result ≡ answer (makable f (B.Library.what book.now) (number self.old) name (me self.old))
+    fn make<B: Library>(&mut self, book: &B, faults: Faults, name: u32) -> Result<(), Denied>
+        ensures answers { number_of result ≡ answer (makable faults.f (B.Library.what book.now) (number self.old) name (me self.old))
             (full_round (me self.old)) }
         ensures holds { me self.new ≡ after (number_of result) (after_make (me self.old)) (me self.old) }
         ensures number { number self.new ≡ number self.old };
 
     /// The order that the member reads off its web: how long it is, and in `out` its names with noughts behind them. The book has to be the
     /// one by which the web was taken in, or what that has grown to.
-    fn order<B: Library>(&self, book: &B, f: u32, out: &mut [u32; 4096]) -> u32
-        requires whole { T (whole_all (B.Library.what book.now) (me self.now).web (me self.now).web) }
-        requires once { T (distinct (me self.now).web) }
-        requires fits { T (fit f (B.Library.what book.now) (me self.now).web) }
-        requires few { f ≤ 4 }
-        requires room { length (me self.now).web ≤ seat_limit }
-        ensures count { result ≡ length (order f (B.Library.what book.now) (me self.now).web) }
-        ensures listed { out.new ≡ padded 4096 (order f (B.Library.what book.now) (me self.now).web) };
+    fn order<B: Library>(&self, book: &B, faults: Faults, out: &mut [u32; 4096]) -> u32
+        requires { Readable faults.f (B.Library.what book.now) (me self.now).web }
+        ensures count { result ≡ length (order faults.f (B.Library.what book.now) (me self.now).web) }
+        ensures listed { out.new ≡ padded 4096 (order faults.f (B.Library.what book.now) (me self.now).web) };
 }
