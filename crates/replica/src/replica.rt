@@ -89,6 +89,6 @@ impl Seat for Replica {
     }
 
     fn order<B: Library>(&self, book: &B, faults: Faults, out: &mut [u32; 4096]) -> u32 {
-        read_order(book, faults.most_bad(), self.web.as_slice(), out)
+        read_order(book, faults, self.web.as_slice(), out)
     }
 }
