@@ -17,9 +17,13 @@ pub record Holds (bits : ℕ) (xs : List ℕ) : Type 0 where
   pub has : (i : ℕ) → has_bit i bits ≡ is_in i xs
   pub count : count_ones bits ≡ different xs
 
+-- what is said of each list that the number holds
+abbrev pub EachList : ℕ → (List ℕ → Type 0) → Type 0
+EachList bits P = (xs : List ℕ) → Holds bits xs → P xs
+
 -- one more member: whatever list the old number held, the new one holds with the member in front
 abbrev pub Adds : ℕ → ℕ → ℕ → Type 0
-Adds member old new = (xs : List ℕ) → Holds old xs → Holds new (member ∷ xs)
+Adds member old new = EachList old (λ xs. Holds new (member ∷ xs))
 
 -- A set and the lists that it holds pin each other: every number of 64 bits holds some list, and only one number holds a list.
 pub record ListsPinSets : Type 0 where

@@ -1,16 +1,21 @@
 // Sets of members, as the bits of a number, and how many of a committee are needed.
 #![tactic(auto)]
 
-ghost use Rattle.std.specs.Prelude.{◌≡◌, ℕ, ◌<◌, ◌≤◌, List, [], Ok, Err, nat_le};
+ghost use Rattle.std.specs.Prelude.{◌≡◌, ◌<◌, ◌≤◌, [], Some, Ok, Err, nat_le, codes};
 ghost use Rattle.model.specs.Names.{is_in, different};
 ghost use Rattle.model.specs.Thresholds.{quorum, needed_votes};
-ghost use Rattle.members.specs.Sets.{Holds, Adds, ListsPinSets};
+ghost use Rattle.members.specs.Sets.{Holds, Adds, EachList, ListsPinSets};
+
+use std::error::Error;
+use std::fmt;
 
 mod faults;
 
 pub use faults::{Faults, TooManyFaults};
 
 /// A set of members, numbers below 64: bit i stands for member i.
+// Fixed memory: the bits of one number. Clauses read the bits and the lists that they hold, and no list as the set's own value (an `impl Model`):
+// callers come with lists in orders of their own, and would still have to say that theirs is the same set.
 #[derive(Clone, Copy, PartialEq, Eq, Debug)]
 pub struct MemberSet {
     bits: u64,
@@ -19,6 +24,16 @@ pub struct MemberSet {
 /// A number that no set of members can hold.
 #[derive(Clone, Copy, PartialEq, Eq, Debug)]
 pub struct NumberTooLarge;
+
+impl fmt::Display for NumberTooLarge {
+    ghost output = { λ _. Some (codes "a member of a set is a number below 64") };
+
+    fn fmt<W: fmt::Write>(&self, f: &mut fmt::Formatter<W>) -> fmt::Result {
+        f.write_str("a member of a set is a number below 64")
+    }
+}
+
+impl Error for NumberTooLarge {}
 
 impl MemberSet {
     /// Members of a set are below this.
@@ -48,28 +63,28 @@ impl MemberSet {
 
     /// Whether it is in the set.
     pub fn contains(&self, member: u32) -> bool
-        ensures { (xs : List ℕ) → Holds self.now.bits xs → result ≡ is_in member xs }
+        ensures { EachList self.now.bits (λ xs. result ≡ is_in member xs) }
     {
         member < MemberSet::LIMIT && (self.bits >> member) & 1 == 1
     }
 
     /// How many different members it has.
     pub fn count(&self) -> u32
-        ensures { (xs : List ℕ) → Holds self.now.bits xs → result ≡ different xs }
+        ensures { EachList self.now.bits (λ xs. result ≡ different xs) }
     {
         self.bits.count_ones()
     }
 
     /// Whether it is a quorum.
     pub fn is_quorum(&self, faults: Faults) -> bool
-        ensures { (xs : List ℕ) → Holds self.now.bits xs → result ≡ nat_le (quorum faults.f) (different xs) }
+        ensures { EachList self.now.bits (λ xs. result ≡ nat_le (quorum faults.f) (different xs)) }
     {
         self.count() >= faults.quorum()
     }
 
     /// Whether it has the votes that an anchor needs.
     pub fn has_votes(&self, faults: Faults) -> bool
-        ensures { (xs : List ℕ) → Holds self.now.bits xs → result ≡ nat_le (needed_votes faults.f) (different xs) }
+        ensures { EachList self.now.bits (λ xs. result ≡ nat_le (needed_votes faults.f) (different xs)) }
     {
         self.count() >= faults.votes()
     }
