@@ -1,4 +1,5 @@
 mod Digits
 mod Cuts
 mod Keeping
+mod Decoding
 pub mod Pairs

@@ -1,8 +1,8 @@
 -- Bytes and their hexadecimal digits, two by two. Assumes nothing.
-use Rattle.std.proofs.Common.{◌≡◌, ℕ, ◌+◌, ◌-◌, ◌*◌, ◌/◌, ◌%◌, ◌<◌, ◌≤◌, Bool, true, false, cond, ◌&&◌, T, ltb, List, [], ◌∷◌, ◌++◌, length, get_or, take, drop, sym, refl, ap, ◌∙◌, ap₂, append_assoc, append-nil, arith, ltb→lt, lt→ltb}
-use Rattle.std.proofs.lemmas.List.{drop_more, drop_all, take_more}
+use Rattle.std.proofs.Common.{◌≡◌, ℕ, ◌+◌, ◌-◌, ◌*◌, ◌/◌, ◌%◌, ◌<◌, ◌≤◌, Bool, true, false, cond, ◌&&◌, T, ltb, List, [], ◌∷◌, length, sym, refl, ap, ◌∙◌, ap₂, arith, ltb→lt, lt→ltb, Some, None, Option}
 use Rattle.std.proofs.lemmas.Bool.{cond-true, cond-false, ltb-true, ltb-false, lt-ltb, le-ltb}
-use Rattle.lines.specs.Hex.{digit_of, hex_of, all_bytes, Spells}
+use Rattle.std.proofs.lemmas.Bool.Decides.{nat_tests}
+use Rattle.lines.specs.Hex.{digit_of, character_of, paired, byte_of, before, decoded, hex_of, all_bytes, Spells}
 
 and_left : (a b : Bool) → T (a && b) → T a
 and_left true b p = tt
@@ -16,58 +16,6 @@ both : (a b : Bool) → T a → T b → T (a && b)
 both true b p q = q
 both false b p q = absurd p
 
-pub hex-++ : (xs ys : List ℕ) → hex_of (xs ++ ys) ≡ hex_of xs ++ hex_of ys
-unfolding hex_of
-hex-++ [] ys = refl
-hex-++ (x ∷ xs) ys = ap (λ l. digit_of (x / 16) ∷ digit_of (x % 16) ∷ l) (hex-++ xs ys)
-
-bytes_push : (xs : List ℕ) (b : ℕ) → T (all_bytes xs) → b < 256 → T (all_bytes (xs ++ (b ∷ [])))
-unfolding all_bytes
-bytes_push [] b p h = both (ltb b 256) true (lt→ltb b 256 h) tt
-bytes_push (x ∷ xs) b p h =
-    both (ltb x 256) (all_bytes (xs ++ (b ∷ []))) (and_left (ltb x 256) (all_bytes xs) p) (bytes_push xs b (and_right (ltb x 256) (all_bytes xs) p) h)
-
--- of the digits so many were read, as these bytes
-pub record Reads (digits bytes rest : List ℕ) : Type 0 where
-  pub all : T (all_bytes bytes)
-  pub parts : digits ≡ hex_of bytes ++ rest
-
-pub reads_none : (digits : List ℕ) → Reads digits [] (drop 0 digits)
-unfolding hex_of all_bytes
-reads_none digits = record { all = tt; parts = refl }
-
-reads_more : (digits bytes rest tail : List ℕ) (high low b : ℕ) → Reads digits bytes rest → rest ≡ high ∷ low ∷ tail →
-    b < 256 → digit_of (b / 16) ≡ high → digit_of (b % 16) ≡ low → Reads digits (bytes ++ (b ∷ [])) tail
-unfolding hex_of
-reads_more digits bytes rest tail high low b r e h p q = record {
-  all = bytes_push bytes b r.all h;
-  parts =
-      r.parts ∙ ap (λ l. hex_of bytes ++ l) (e ∙ ap₂ (λ u v. u ∷ v ∷ tail) (sym p) (sym q))
-      ∙ sym (append_assoc (hex_of bytes) (hex_of (b ∷ [])) tail) ∙ ap (λ l. l ++ tail) (sym (hex-++ bytes (b ∷ [])));
-}
-
--- what is left of digits that bytes write, where the first of them were read, is written by bytes
-left-written : (bytes more rest : List ℕ) → hex_of more ≡ hex_of bytes ++ rest → T (all_bytes more) →
-    (ys : List ℕ) × (hex_of ys ≡ rest) × T (all_bytes ys)
-unfolding hex_of all_bytes
-left-written [] more rest e p = (more, e, p)
-left-written (b ∷ bs) [] rest e p = let z : ◌≡◌ {A = ℕ} 0 1 = cc in absurd (omega arith)
-left-written (b ∷ bs) (m ∷ ms) rest e p =
-    let tails : hex_of ms ≡ hex_of bs ++ rest = cc in left-written bs ms rest tails (and_right (ltb m 256) (all_bytes ms) p)
-
-reads_refused : (digits bytes rest tail : List ℕ) (high low : ℕ) → Reads digits bytes rest → rest ≡ high ∷ low ∷ tail →
-    ((b : ℕ) → b < 256 → digit_of (b / 16) ≡ high → digit_of (b % 16) ≡ low → ⊥) → (more : List ℕ) → Spells digits more → ⊥
-unfolding hex_of all_bytes
-reads_refused digits bytes rest tail high low r e no_byte more s =
-    let left = left-written bytes more rest (s.is ∙ r.parts) s.all in go left.0 (left.1 ∙ e) left.2
-  where
-    go : (ys : List ℕ) → hex_of ys ≡ high ∷ low ∷ tail → T (all_bytes ys) → ⊥
-    go [] p q = let z : ◌≡◌ {A = ℕ} 0 1 = cc in omega arith
-    go (y ∷ ys) p q =
-        let one : digit_of (y / 16) ≡ high = cc in
-        let two : digit_of (y % 16) ≡ low = cc in
-        no_byte y (ltb→lt y 256 (and_left (ltb y 256) (all_bytes ys) q)) one two
-
 hex-length : (bytes : List ℕ) → length (hex_of bytes) ≡ 2 * length bytes
 unfolding hex_of
 hex-length [] = refl
@@ -77,47 +25,11 @@ hex-length (b ∷ bs) = let h = hex-length bs in omega arith
 pub spelled_even : (digits more : List ℕ) → Spells digits more → (2 ≤ length digits) × (length digits % 2 ≡ 0)
 spelled_even digits more s = let e = ap length s.is in let h = hex-length more in let k = s.some in (omega arith, omega arith)
 
--- as the code reads it: so many pairs of digits
-pairs_at : (digits : List ℕ) (i : ℕ) → 2 * i + 1 < length digits → drop (2 * i) digits ≡ get_or digits (2 * i) 0 ∷ get_or digits (2 * i + 1) 0 ∷ drop (2 * (i + 1)) digits
-pairs_at digits i h =
-    let next : 2 * i + 1 + 1 ≡ 2 * (i + 1) = omega arith in
-    drop_more digits (2 * i) 0 (omega arith)
-    ∙ ap (λ l. get_or digits (2 * i) 0 ∷ l) (drop_more digits (2 * i + 1) 0 h ∙ ap (λ n. get_or digits (2 * i + 1) 0 ∷ drop n digits) next)
-
-module _ (digits bytes : List ℕ) (i : ℕ) (within : 2 * i + 1 < length digits) (r : Reads digits bytes (drop (2 * i) digits)) where
-  pub pair_read : (b : ℕ) → b < 256 → digit_of (b / 16) ≡ get_or digits (2 * i) 0 → digit_of (b % 16) ≡ get_or digits (2 * i + 1) 0 →
-      Reads digits (bytes ++ (b ∷ [])) (drop (2 * (i + 1)) digits)
-  pair_read b h p q =
-      reads_more digits bytes (drop (2 * i) digits) (drop (2 * (i + 1)) digits) (get_or digits (2 * i) 0) (get_or digits (2 * i + 1) 0) b r
-      (pairs_at digits i within) h p q
-
-  pub pair_refused : ((b : ℕ) → b < 256 → digit_of (b / 16) ≡ get_or digits (2 * i) 0 → digit_of (b % 16) ≡ get_or digits (2 * i + 1) 0 → ⊥) →
-      (more : List ℕ) → Spells digits more → ⊥
-  pair_refused no_byte =
-      reads_refused digits bytes (drop (2 * i) digits) (drop (2 * (i + 1)) digits) (get_or digits (2 * i) 0) (get_or digits (2 * i + 1) 0) r
-      (pairs_at digits i within) no_byte
-
-pub all_read : (digits bytes : List ℕ) (i : ℕ) → Reads digits bytes (drop (2 * i) digits) → length digits ≤ 2 * i → 0 < length digits → Spells digits bytes
-unfolding hex_of
-all_read digits bytes i r end some = go bytes r.all (r.parts ∙ ap (λ l. hex_of bytes ++ l) (drop_all (2 * i) digits end) ∙ append-nil (hex_of bytes))
-  where
-    go : (bytes : List ℕ) → T (all_bytes bytes) → digits ≡ hex_of bytes → Spells digits bytes
-    go [] p e = absurd (let n = ap length e in omega arith)
-    go (b ∷ bs) p e = record { some = omega arith; all = p; is = sym e }
-
--- one more byte's digits behind those of the first i bytes
-pub digits_push : (done bytes : List ℕ) (i : ℕ) (high low : ℕ) → i < length bytes → done ≡ hex_of (take i bytes) →
-    high ≡ digit_of (get_or bytes i 0 / 16) → low ≡ digit_of (get_or bytes i 0 % 16) → (done ++ (high ∷ [])) ++ (low ∷ []) ≡ hex_of (take (i + 1) bytes)
-unfolding hex_of
-digits_push done bytes i high low h e p q =
-    append_assoc done (high ∷ []) (low ∷ []) ∙ ap₂ (λ u l. u ++ l) e (ap₂ (λ x y. x ∷ y ∷ []) p q)
-    ∙ sym (hex-++ (take i bytes) (get_or bytes i 0 ∷ [])) ∙ ap hex_of (sym (take_more bytes i 0 h))
-
 -- ---- digits write one list of bytes at most
 value_of : ℕ → ℕ
 value_of d = cond (ltb d 58) (d - 48) (d - 87)
 
-value_of_digit : (n : ℕ) → n < 16 → value_of (digit_of n) ≡ n
+value_of_digit : (n : ℕ) → n < 16 → value_of (character_of n) ≡ n
 unfolding value_of
 value_of_digit n h = go (ltb n 10) refl
   where
@@ -127,10 +39,10 @@ value_of_digit n h = go (ltb n 10) refl
     go false e =
         let high = ltb-false n 10 e in cond-false (ltb (87 + n) 58) (87 + n - 48) (87 + n - 87) (le-ltb (87 + n) 58 (omega arith)) ∙ omega arith
 
-digits_one : (m n : ℕ) → m < 16 → n < 16 → digit_of m ≡ digit_of n → m ≡ n
+digits_one : (m n : ℕ) → m < 16 → n < 16 → character_of m ≡ character_of n → m ≡ n
 digits_one m n hm hn e = sym (value_of_digit m hm) ∙ ap value_of e ∙ value_of_digit n hn
 
-bytes_one : (a b : ℕ) → a < 256 → b < 256 → digit_of (a / 16) ≡ digit_of (b / 16) → digit_of (a % 16) ≡ digit_of (b % 16) → a ≡ b
+bytes_one : (a b : ℕ) → a < 256 → b < 256 → character_of (a / 16) ≡ character_of (b / 16) → character_of (a % 16) ≡ character_of (b % 16) → a ≡ b
 bytes_one a b ha hb e f =
     let high = digits_one (a / 16) (b / 16) (omega arith) (omega arith) e in
     let low = digits_one (a % 16) (b % 16) (omega arith) (omega arith) f in
@@ -142,8 +54,8 @@ hex_one [] [] p q e = refl
 hex_one [] (y ∷ ys) p q e = let z : ◌≡◌ {A = ℕ} 0 1 = cc in absurd (omega arith)
 hex_one (x ∷ xs) [] p q e = let z : ◌≡◌ {A = ℕ} 0 1 = cc in absurd (omega arith)
 hex_one (x ∷ xs) (y ∷ ys) p q e =
-    let high : digit_of (x / 16) ≡ digit_of (y / 16) = cc in
-    let low : digit_of (x % 16) ≡ digit_of (y % 16) = cc in
+    let high : character_of (x / 16) ≡ character_of (y / 16) = cc in
+    let low : character_of (x % 16) ≡ character_of (y % 16) = cc in
     let rest : hex_of xs ≡ hex_of ys = cc in
     ap₂ (λ u v. u ∷ v)
     (bytes_one x y (ltb→lt x 256 (and_left (ltb x 256) (all_bytes xs) p)) (ltb→lt y 256 (and_left (ltb y 256) (all_bytes ys) q)) high low)
@@ -151,3 +63,66 @@ hex_one (x ∷ xs) (y ∷ ys) p q e =
 
 pub spells_one : (digits xs ys : List ℕ) → Spells digits xs → Spells digits ys → xs ≡ ys
 spells_one digits xs ys s t = hex_one xs ys s.all t.all (s.is ∙ sym t.is)
+
+-- ---- what the digits write is what is decoded of them
+digit_back : (c n : ℕ) → digit_of c ≡ Some n → (n < 16) × (character_of n ≡ c)
+digit_back c n e = grind (arith, nat_tests)
+
+digit_of_character : (n : ℕ) → n < 16 → digit_of (character_of n) ≡ Some n
+digit_of_character n h = grind (arith, nat_tests)
+
+byte_written : (b : ℕ) → b < 256 → byte_of (character_of (b / 16)) (character_of (b % 16)) ≡ Some b
+byte_written b h =
+    ap₂ paired (digit_of_character (b / 16) (omega arith)) (digit_of_character (b % 16) (omega arith))
+    ∙ ap (λ n. Some n) (let whole : 16 * (b / 16) + b % 16 ≡ b = omega arith in whole)
+
+hex_decoded : (bytes : List ℕ) → T (all_bytes bytes) → decoded (hex_of bytes) ≡ Some bytes
+unfolding hex_of all_bytes decoded
+hex_decoded [] p = refl
+hex_decoded (b ∷ bs) p =
+    ap₂ before (byte_written b (ltb→lt b 256 (and_left (ltb b 256) (all_bytes bs) p))) (hex_decoded bs (and_right (ltb b 256) (all_bytes bs) p))
+
+pub spelled_decoded : (digits bytes : List ℕ) → Spells digits bytes → decoded digits ≡ Some bytes
+spelled_decoded digits bytes s = ap decoded (sym s.is) ∙ hex_decoded bytes s.all
+
+byte_read : (high low b : ℕ) → byte_of high low ≡ Some b → (b < 256) × (character_of (b / 16) ≡ high) × (character_of (b % 16) ≡ low)
+byte_read high low b e = go (digit_of high) (digit_of low) (digit_back high) (digit_back low) e
+  where
+    go : (h l : Option ℕ) → ((n : ℕ) → h ≡ Some n → (n < 16) × (character_of n ≡ high)) → ((n : ℕ) → l ≡ Some n → (n < 16) × (character_of n ≡ low)) →
+        paired h l ≡ Some b → (b < 256) × (character_of (b / 16) ≡ high) × (character_of (b % 16) ≡ low)
+    go None l p q e = cc
+    go (Some h) None p q e = cc
+    go (Some h) (Some l) p q e =
+        let first = p h refl in
+        let second = q l refl in
+        let is : 16 * h + l ≡ b = cc in
+        let of_high : h ≡ b / 16 = omega arith in
+        let of_low : l ≡ b % 16 = omega arith in
+        (omega arith, ap character_of (sym of_high) ∙ first.1, ap character_of (sym of_low) ∙ second.1)
+
+pub decoded_written : (digits bytes : List ℕ) → decoded digits ≡ Some bytes → (hex_of bytes ≡ digits) × T (all_bytes bytes)
+unfolding decoded hex_of all_bytes
+decoded_written [] [] e = (refl, tt)
+decoded_written [] (b ∷ bs) e = cc
+decoded_written (x ∷ []) bytes e = cc
+decoded_written (x ∷ y ∷ rest) bytes e = go (byte_of x y) (decoded rest) (byte_read x y) (decoded_written rest) bytes e
+  where
+    go : (o : Option ℕ) (r : Option (List ℕ)) → ((b : ℕ) → o ≡ Some b → (b < 256) × (character_of (b / 16) ≡ x) × (character_of (b % 16) ≡ y)) →
+        ((bs : List ℕ) → r ≡ Some bs → (hex_of bs ≡ rest) × T (all_bytes bs)) →
+        (bytes : List ℕ) → before o r ≡ Some bytes → (hex_of bytes ≡ x ∷ y ∷ rest) × T (all_bytes bytes)
+    go None r p q bytes e = cc
+    go (Some b) None p q bytes e = cc
+    go (Some b) (Some bs) p q [] e = cc
+    go (Some b) (Some bs) p q (c ∷ cs) e =
+        let same : b ≡ c = cc in
+        let others : bs ≡ cs = cc in
+        let one = p c (ap (λ n. Some n) same) in
+        let more = q cs (ap (λ l. Some l) others) in
+        (ap₂ (λ u v. u ∷ v) one.1 (ap₂ (λ u v. u ∷ v) one.2 more.0), both (ltb c 256) (all_bytes cs) (lt→ltb c 256 one.0) more.1)
+
+pub decoded_spells : (digits bytes : List ℕ) → 0 < length digits → decoded digits ≡ Some bytes → Spells digits bytes
+decoded_spells digits bytes some e =
+    let written = decoded_written digits bytes e in
+    let n = hex-length bytes in
+    let m = ap length written.0 in
+    record { some = omega arith; all = written.1; is = written.0 }

@@ -1,57 +1,52 @@
-// Bytes in hexadecimal: lower-case digits, two for each byte.
-ghost use Rattle.std.specs.Prelude.{◌≡◌, ℕ, ◌/◌, ◌%◌, ◌<◌, List, IfOk, Some, None, ◌≢◌};
-ghost use Rattle.lines.specs.Hex.{digit_of, hex_of, Spells};
+// Bytes in hexadecimal: two lower-case digits for each byte, the higher first.
+ghost use Rattle.std.specs.Prelude.{◌≡◌, ℕ, ◌<◌, ◌++◌, List, length, vec_items, IfOk, OnOk, Some, None};
+ghost use Rattle.std.specs.Option.{option_map};
+ghost use Rattle.lines.specs.Hex.{digit_of, Small, character_of, byte_of, decoded, array_of, hex_of, Spells};
 
 use std::alloc::{AllocError, Global};
 
-const LETTERS_FROM: u8 = b'a' - 10;
-
 /// The value of a digit.
-fn digit_value(digit: u8) -> Option<u8>
-    ensures { elim result [ Some n ↦ (n < 16) × (digit ≡ digit_of n) | None ↦ ((n : ℕ) → n < 16 → digit ≢ digit_of n) ] }
+fn value(digit: u8) -> Option<u8>
+    ensures is { result ≡ digit_of digit }
+    ensures small { Small result }
 {
     match digit {
         b'0'..=b'9' => Some(digit - b'0'),
-        b'a'..=b'f' => Some(digit - LETTERS_FROM),
+        b'a'..=b'f' => Some(digit - b'a' + 10),
         _ => None,
     }
 }
 
-/// The byte that two digits write.
-fn byte_value(high: u8, low: u8) -> Option<u8>
-    ensures { elim result [
-      | Some b ↦ (b < 256) × (digit_of (b / 16) ≡ high) × (digit_of (b % 16) ≡ low)
-      | None ↦ ((b : ℕ) → b < 256 → digit_of (b / 16) ≡ high → digit_of (b % 16) ≢ low)
-    ] }
-{
-    Some(digit_value(high)? * 16 + digit_value(low)?)
-}
-
-/// The digit of a number below 16.
-fn digit(value: u8) -> u8
+/// The digit of a value.
+fn character(value: u8) -> u8
     requires { value < 16 }
-    ensures { result ≡ digit_of value }
+    ensures { result ≡ character_of value }
 {
     if value < 10 {
         b'0' + value
     } else {
-        LETTERS_FROM + value
+        b'a' + (value - 10)
     }
 }
 
-/// The bytes that the digits write, where there are two digits or more, an even number of them, and nothing else.
-pub fn bytes_of(heap: Global, digits: &[u8]) -> Result<Option<Vec<u8>>, AllocError>
-    ensures { IfOk result (λ o. elim o [
-      | Some v ↦ Spells digits.now v.items
-      | None ↦ ((bytes : List ℕ) → Spells digits.now bytes → ⊥)
-    ]) }
+/// The byte that two digits write.
+fn byte(high: u8, low: u8) -> Option<u8>
+    ensures { result ≡ byte_of high low }
 {
-    if digits.len() < 2 || digits.len() % 2 == 1 {
+    Some(16 * value(high)? + value(low)?)
+}
+
+/// The bytes that digits write: an even number of them and nothing else, none included.
+pub fn decode(heap: Global, digits: &[u8]) -> Result<Option<Vec<u8>>, AllocError>
+    ensures { IfOk result (λ o. option_map vec_items o ≡ decoded digits.now) }
+{
+    let (pairs, rest) = digits.as_chunks::<2>();
+    if !rest.is_empty() {
         return Ok(None);
     }
     let mut bytes = Vec::new(heap);
-    for i in 0..digits.len() / 2 {
-        let Some(byte) = byte_value(digits[2 * i], digits[2 * i + 1]) else {
+    for [high, low] in pairs {
+        let Some(byte) = byte(*high, *low) else {
             return Ok(None);
         };
         bytes.push(byte)?;
@@ -59,14 +54,50 @@ pub fn bytes_of(heap: Global, digits: &[u8]) -> Result<Option<Vec<u8>>, AllocErr
     Ok(Some(bytes))
 }
 
-/// The digits that write these bytes.
+/// The bytes that digits write, where there are two digits or more.
+pub fn bytes_of(heap: Global, digits: &[u8]) -> Result<Option<Vec<u8>>, AllocError>
+    ensures { IfOk result (λ o. elim o [
+      | Some v ↦ Spells digits.now v.items
+      | None ↦ ((bytes : List ℕ) → Spells digits.now bytes → ⊥)
+    ]) }
+{
+    if digits.is_empty() {
+        return Ok(None);
+    }
+    decode(heap, digits)
+}
+
+/// The N bytes that exactly 2 N digits write.
+pub fn array_of<const N: usize>(digits: &[u8]) -> Option<[u8; N]>
+    ensures { result ≡ array_of N digits.now }
+{
+    let (pairs, rest) = digits.as_chunks::<2>();
+    if pairs.len() != N || !rest.is_empty() {
+        return None;
+    }
+    let mut bytes = [0; N];
+    for (i, [high, low]) in pairs.iter().enumerate() {
+        bytes[i] = byte(*high, *low)?;
+    }
+    Some(bytes)
+}
+
+/// Appends the digits of some bytes.
+pub fn append(digits: &mut Vec<u8>, bytes: &[u8]) -> Result<(), AllocError>
+    ensures { OnOk result (digits.new.items ≡ digits.old.items ++ hex_of bytes.now) }
+{
+    for byte in bytes {
+        digits.push(character(*byte / 16))?;
+        digits.push(character(*byte % 16))?;
+    }
+    Ok(())
+}
+
+/// The digits of some bytes.
 pub fn digits_of(heap: Global, bytes: &[u8]) -> Result<Vec<u8>, AllocError>
     ensures { IfOk result (λ v. v.items ≡ hex_of bytes.now) }
 {
     let mut digits = Vec::new(heap);
-    for byte in bytes {
-        digits.push(digit(*byte / 16))?;
-        digits.push(digit(*byte % 16))?;
-    }
+    append(&mut digits, bytes)?;
     Ok(digits)
 }
