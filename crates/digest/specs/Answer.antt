@@ -2,7 +2,7 @@
 
 use Rattle.std.specs.Prelude.{ℕ, List, ◌∷◌, ◌++◌, Some, None, codes, Option}
 use Rattle.sha3.specs.Sponge.{sha3_256, sha3_512}
-use Rattle.digest.specs.Hex.{decoded, hex_of}
+use Rattle.lines.specs.Hex.{decoded, hex_of}
 
 -- SHA3-256 of a message, a space, and SHA3-512.
 unfoldable pub digests_of : List ℕ → List ℕ

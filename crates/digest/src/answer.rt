@@ -3,7 +3,7 @@
 ghost use Rattle.std.specs.Prelude.{◌≡◌, IfOk, codes};
 ghost use Rattle.digest.specs.Answer.{answer_of, digests_of};
 
-use crate::hex;
+use lines::hex;
 use sha3::{sha3_256, sha3_512};
 use std::alloc::{AllocError, Global};
 
@@ -21,9 +21,7 @@ pub fn answer(heap: Global, line: &[u8]) -> Result<Vec<u8>, AllocError>
 fn refusal(heap: Global) -> Result<Vec<u8>, AllocError>
     ensures { IfOk result (λ v. v.items ≡ codes "no") }
 {
-    let mut text = Vec::new(heap);
-    text.extend_from_slice(b"no")?;
-    Ok(text)
+    Vec::from_slice(heap, b"no")
 }
 
 /// Both digests of a message as text.

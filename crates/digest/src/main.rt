@@ -4,7 +4,6 @@
 #![tactic(auto)]
 
 mod answer;
-mod hex;
 
 use answer::answer;
 use std::io;

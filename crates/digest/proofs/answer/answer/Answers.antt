@@ -1,6 +1,6 @@
 use Rattle.std.proofs.Common.{◌≡◌, ℕ, List, IfOk, Some, None, vec_items, codes, sym, ap, ◌∙◌, subst}
 use Rattle.std.specs.Option.{option_map}
-use Rattle.digest.specs.Hex.{decoded}
+use Rattle.lines.specs.Hex.{decoded}
 use Rattle.digest.specs.Answer.{digests_of, answered, answer_of}
 use Rattle.digest.proofs.answer.answer.Goals as goal
 
