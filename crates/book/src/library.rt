@@ -2,6 +2,10 @@
 ghost use Rattle.std.specs.Prelude.{◌≡◌, length, slice_index};
 ghost use Rattle.model.specs.Blocks.{Book};
 
+mod going_over;
+
+pub use going_over::{Parents, parents_of};
+
 // A book knows each block by its name; `what` tells which block that is.
 pub trait Library {
     ghost what: { Self → Book };

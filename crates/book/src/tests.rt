@@ -1,4 +1,5 @@
 // A few blocks in a small book.
+use crate::library::{Library, parents_of};
 use crate::{Book, Entry, Refusal};
 use std::process::Abort;
 
@@ -10,6 +11,27 @@ fn a_block_met_twice_has_one_name(rt: HostRuntime) {
     let mut loads = [0; 4];
     let mut book = Book::new(&mut entries, &mut parents, &mut loads);
     meets_twice(&rt, &mut book);
+}
+
+#[test]
+fn parents_come_in_order(rt: HostRuntime) {
+    let mut entries = [Entry::EMPTY; 4];
+    let mut parents = [0; 4];
+    let mut loads = [0; 4];
+    let mut book = Book::new(&mut entries, &mut parents, &mut loads);
+    assert_eq!(rt; book.meet(0, 0, &[], b""), Ok(0));
+    assert_eq!(rt; book.meet(1, 0, &[], b""), Ok(1));
+    assert_eq!(rt; book.meet(0, 1, &[1, 0], b""), Ok(2));
+    let view = book.view();
+    assert_eq!(rt; in_decimal(&view, 2), 10);
+    assert_eq!(rt; in_decimal(&view, 0), 0);
+}
+
+// the parents' names, as the digits of a number
+fn in_decimal<B: Library>(book: &B, name: u32) -> u32 {
+    parents_of(book, name).fold(0, |digits: u32, parent| {
+        digits.saturating_mul(10).saturating_add(parent)
+    })
 }
 
 fn meets_twice(rt: &impl Abort, book: &mut Book) {

@@ -1,0 +1,54 @@
+// Going over a block's parents.
+ghost use Rattle.std.specs.Prelude.{◌≡◌};
+ghost use Rattle.std.specs.Iterator.{YieldsFirst, item_count};
+
+use crate::library::Library;
+use std::marker::Model;
+
+/// The names of a block's parents, in order; clauses see the list of those that are still to come. The number of parents is read once.
+#[derive(Drop)]
+pub struct Parents<'a, B: Library> {
+    book: &'a B,
+    name: u32,
+    at: u32,
+    end: u32,
+}
+
+impl<'a, B: Library> Model for Parents<'a, B> {
+    ghost use Rattle.std.specs.Prelude.{◌≡◌, ◌≤◌, ℕ, List, length, drop};
+
+    ghost Value = { List ℕ };
+
+    ghost view = { λ p. drop p.at (B.Library.what p.book.now p.name).parents };
+
+    ghost invariant = { λ p. p.end ≡ length (B.Library.what p.book.now p.name).parents };
+}
+
+/// The names of the parents of this block.
+pub fn parents_of<B: Library>(book: &B, name: u32) -> Parents<'_, B>
+    ensures { result ≡ (B.Library.what book.now name).parents }
+{
+    Parents {
+        book,
+        name,
+        at: 0,
+        end: book.parents(name),
+    }
+}
+
+impl<B: Library> Iterator for Parents<'_, B> {
+    type Item = u32;
+
+    ghost next_gives = { YieldsFirst (λ rest. rest) };
+
+    ghost remaining = { item_count (λ rest. rest) };
+
+    fn next(&mut self) -> Option<u32> {
+        if self.at >= self.end {
+            return None;
+        }
+        let parent = self.book.parent(self.name, self.at);
+        self.at += 1;
+        Some(parent)
+    }
+}
