@@ -1,66 +1,34 @@
 -- A line's words: its first space, and what stands before and after it. Assumes nothing.
-use Rattle.std.proofs.Common.{◌≡◌, ℕ, suc, ◌+◌, ◌-◌, ◌<◌, ◌≤◌, Bool, true, false, cond, not, ◌&&◌, ◌||◌, T, eqb, List, [], ◌∷◌, ◌++◌, length, get_or, take, drop, is_some, Some, None, Decides, Option, sym, refl, ap, ◌∙◌, arith, Bor}
-use Rattle.std.proofs.lemmas.List.{drop_more, drop_all, take_rest}
-use Rattle.std.proofs.lemmas.Bool.{eq-eqb, ne_eqb, cond-true, cond-false, cond_both, eqb-true, or_from, or_parts, true≢false}
+use Rattle.std.proofs.Common.{◌≡◌, ℕ, zero, suc, ◌+◌, ◌-◌, ◌<◌, Bool, true, false, cond, not, ◌&&◌, ◌||◌, T, eqb, List, [], ◌∷◌, ◌++◌, length, get_or, take, drop, is_some, Some, None, Option, sym, refl, ap, ◌∙◌, arith, Bor}
+use Rattle.std.proofs.lemmas.List.{take_rest}
+use Rattle.std.proofs.lemmas.Bool.{eq-eqb, ne_eqb, cond-true, cond-false, eqb-true, or_from, or_parts, true≢false}
 use Rattle.lines.specs.Left.{left_of}
-use Rattle.lines.specs.Words.{space, has, place_of, in_front, words_of, none, joined, spaceless, WordsJoin}
+use Rattle.lines.specs.Words.{space, has, in_front, words_of, none, joined, spaceless, WordsJoin}
 
--- the first byte like this, looked for from place i on
-pub place_here : (c : ℕ) (bs : List ℕ) (i : ℕ) → i < length bs → get_or bs i 0 ≡ c → place_of c (drop i bs) ≡ 0
-unfolding place_of
-place_here c bs i h e =
-    ap (place_of c) (drop_more bs i 0 h) ∙ cond-true (eqb (get_or bs i 0) c) 0 (suc (place_of c (drop (i + 1) bs))) (eq-eqb (get_or bs i 0) c e)
-
-pub place_later : (c : ℕ) (bs : List ℕ) (i : ℕ) → i < length bs → (get_or bs i 0 ≡ c → ⊥) → place_of c (drop i bs) ≡ suc (place_of c (drop (i + 1) bs))
-unfolding place_of
-place_later c bs i h e =
-    ap (place_of c) (drop_more bs i 0 h) ∙ cond-false (eqb (get_or bs i 0) c) 0 (suc (place_of c (drop (i + 1) bs))) (ne_eqb (get_or bs i 0) c e)
-
-pub place_end : (c : ℕ) (bs : List ℕ) (i : ℕ) → length bs ≤ i → place_of c (drop i bs) ≡ 0
-unfolding place_of
-place_end c bs i h = ap (place_of c) (drop_all i bs h)
-
-pub place_within : (c : ℕ) (bs : List ℕ) → place_of c bs ≤ length bs
-unfolding place_of
-place_within c [] = omega arith
-place_within c (b ∷ bs) =
-    let h = place_within c bs in
-    cond_both (eqb b c) 0 (suc (place_of c bs)) (λ n. n ≤ suc (length bs)) (λ e. omega arith) (λ e. omega arith)
-
--- a line whose first space isn't at its end: the word before it, and the words behind it
-first_word : (bs : List ℕ) → place_of space bs < length bs → words_of bs ≡ take (place_of space bs) bs ∷ words_of (drop (suc (place_of space bs)) bs)
-unfolding place_of words_of
-first_word [] h = absurd (omega arith)
-first_word (b ∷ bs) h = go (eqb b space) (first_word bs) h
-  where
-    go : (t : Bool) → (place_of space bs < length bs → words_of bs ≡ take (place_of space bs) bs ∷ words_of (drop (suc (place_of space bs)) bs)) →
-        cond t 0 (suc (place_of space bs)) < suc (length bs) →
-        cond t ([] ∷ words_of bs) (in_front b (words_of bs)) ≡
-        take (cond t 0 (suc (place_of space bs))) (b ∷ bs) ∷ words_of (drop (suc (cond t 0 (suc (place_of space bs)))) (b ∷ bs))
-    go true rest h = refl
-    go false rest h = ap (in_front b) (rest (omega arith))
+-- a line whose first space stands at place i: the word before it, and the words behind it
+first_word : (bs : List ℕ) (i : ℕ) → i < length bs → get_or bs i 0 ≡ space → ((k : ℕ) → k < i → get_or bs k 0 ≡ space → ⊥) →
+    words_of bs ≡ take i bs ∷ words_of (drop (suc i) bs)
+unfolding words_of
+first_word [] i h e before = absurd (omega arith)
+first_word (b ∷ bs) zero h e before = cond-true (eqb b space) ([] ∷ words_of bs) (in_front b (words_of bs)) (eq-eqb b space e)
+first_word (b ∷ bs) (suc i) h e before =
+    cond-false (eqb b space) ([] ∷ words_of bs) (in_front b (words_of bs)) (ne_eqb b space (before 0 (omega arith)))
+    ∙ ap (in_front b) (first_word bs i (omega arith) e (λ k l. before (suc k) (omega arith)))
 
 -- as the code cuts it
-pub word_here : (bs : List ℕ) (p : ℕ) → p ≡ place_of space bs → p < length bs →
-    words_of bs ≡ take (p - 0) bs ∷ words_of (take (length bs - (p + 1)) (drop (p + 1) bs))
-word_here bs p e h =
-    let within : place_of space bs < length bs = omega arith in
-    let here : place_of space bs ≡ p - 0 = omega arith in
-    let next : suc (place_of space bs) ≡ p + 1 = omega arith in
-    let back : drop (suc (place_of space bs)) bs ≡ take (length bs - (p + 1)) (drop (p + 1) bs) =
-    ap (λ n. drop n bs) next ∙ sym (take_rest bs (p + 1)) in
-    first_word bs within ∙ ap (λ n. take n bs ∷ words_of (drop (suc (place_of space bs)) bs)) here ∙ ap (λ l. take (p - 0) bs ∷ words_of l) back
+pub word_here : (bs : List ℕ) (i : ℕ) → i < length bs → get_or bs i 0 ≡ space → ((k : ℕ) → k < i → get_or bs k 0 ≡ space → ⊥) →
+    words_of bs ≡ take i bs ∷ words_of (take (length bs - (i + 1)) (drop (i + 1) bs))
+word_here bs i h e before =
+    let next : suc i ≡ i + 1 = omega arith in
+    first_word bs i h e before ∙ ap (λ l. take i bs ∷ words_of l) (ap (λ n. drop n bs) next ∙ sym (take_rest bs (i + 1)))
 
 -- a line without a space is one word
-pub last_word : (bs : List ℕ) → length bs ≤ place_of space bs → words_of bs ≡ bs ∷ []
-unfolding place_of words_of
-last_word [] h = refl
-last_word (b ∷ bs) h = go (eqb b space) (last_word bs) h
-  where
-    go : (t : Bool) → (length bs ≤ place_of space bs → words_of bs ≡ bs ∷ []) → suc (length bs) ≤ cond t 0 (suc (place_of space bs)) →
-        cond t ([] ∷ words_of bs) (in_front b (words_of bs)) ≡ (b ∷ bs) ∷ []
-    go true rest h = absurd (omega arith)
-    go false rest h = ap (in_front b) (rest (omega arith))
+pub last_word : (bs : List ℕ) → ((k : ℕ) → k < length bs → get_or bs k 0 ≡ space → ⊥) → words_of bs ≡ bs ∷ []
+unfolding words_of
+last_word [] none = refl
+last_word (b ∷ bs) none =
+    cond-false (eqb b space) ([] ∷ words_of bs) (in_front b (words_of bs)) (ne_eqb b space (none 0 (omega arith)))
+    ∙ ap (in_front b) (last_word bs (λ k l. none (suc k) (omega arith)))
 
 -- a line's words, joined, are the line
 some_word : (bs : List ℕ) → none (words_of bs) ≡ false
@@ -158,9 +126,3 @@ unfolding has
 has_push c [] b e ne = or_from (eqb b c) false (ne_eqb b c ne) refl
 has_push c (x ∷ bs) b e ne =
     let parts = or_parts (eqb x c) (has c bs) e in or_from (eqb x c) (has c (bs ++ (b ∷ []))) parts.0 (has_push c bs b parts.1 ne)
-
--- two tests of one fact are one
-pub same_tests : {P : Type 0} (a b : Bool) → Decides a P → Decides b P → a ≡ b
-same_tests true b p q = sym (q.1 (p.0 refl))
-same_tests false true p q = p.1 (q.0 refl)
-same_tests false false p q = refl
