@@ -1,7 +1,7 @@
--- What a list of names holds. Assumes nothing.
-use Rattle.std.specs.Prelude.{ℕ, List, drop}
-use Rattle.replica.specs.declared.names.NameList.{NameList}
+-- What the member of a seat holds. Assumes nothing.
+use Rattle.replica.specs.declared.replica.Replica.{Replica}
+use Rattle.model.specs.Member.{Member}
 
--- the names, the latest first: the array is filled from its end
-abbrev pub items : NameList → List ℕ
-items list = drop list.from list.names
+-- its lists hold names, the latest first
+abbrev pub held : Replica → Member
+held s = record { web = s.web; signed = s.signed; round = s.round }

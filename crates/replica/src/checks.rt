@@ -1,166 +1,170 @@
 // What a seat asks of a block before it signs it, takes it in or makes it: each test is one of the definitions.
-ghost use Rattle.std.specs.Prelude.{◌≡◌, ◌-◌, not, ◌&&◌, ◌||◌, drop, ◌==◌, nat_le, nat_lt};
+ghost use Rattle.std.specs.Prelude.{◌≡◌, ◌+◌, ◌-◌, ◌<◌, not, ◌&&◌, ◌||◌, drop, length, slice_index, ◌==◌, nat_le, nat_lt};
 ghost use Rattle.model.specs.Names.{is_in, all_in, distinct, different};
 ghost use Rattle.model.specs.Thresholds.{members as members_of, quorum};
 ghost use Rattle.model.specs.Blocks.{authors_at, all_earlier, valid};
 ghost use Rattle.model.specs.Member.{rival};
 ghost use Rattle.members.specs.Sets.{Holds};
+ghost use Rattle.replica.specs.Candidates.{book_of, block_of};
 
-use crate::names::is_among;
 use book::library::Library;
 use members::{Faults, MemberSet};
 
-/// Whether these are two blocks of one author and round.
-fn are_rivals<B: Library>(book: &B, one: u32, other: u32) -> bool
-    ensures { result ≡ (not (one == other) && ((B.Library.what book.now one).author == (B.Library.what book.now other).author)
-        && (B.Library.what book.now one).round == (B.Library.what book.now other).round) }
-{
-    one != other && book.author(one) == book.author(other) && book.round(one) == book.round(other)
+/// A block that a seat is asked about: its name, and the book that tells which block that is.
+#[derive(Drop)]
+pub struct Candidate<'a, B> {
+    pub book: &'a B,
+    pub name: u32,
 }
 
-/// Whether a rival of the block is among these.
-pub fn has_rival<B: Library>(book: &B, name: u32, names: &[u32]) -> bool
-    ensures { result ≡ rival (B.Library.what book.now) name names.now }
-{
-    for other in names {
-        if are_rivals(book, name, *other) {
-            return true;
-        }
+impl<B: Library> Candidate<'_, B> {
+    fn author(&self) -> u32
+        ensures { result ≡ (block_of B.what self.now).author }
+    {
+        self.book.author(self.name)
     }
-    false
-}
 
-/// Whether all parents of the block are among these.
-pub fn parents_among<B: Library>(book: &B, name: u32, names: &[u32]) -> bool
-    ensures { result ≡ all_in (B.Library.what book.now name).parents names.now }
-{
-    for at in 0..book.parents(name) {
-        if !is_among(book.parent(name, at), names) {
-            return false;
-        }
+    fn round(&self) -> u32
+        ensures { result ≡ (block_of B.what self.now).round }
+    {
+        self.book.round(self.name)
     }
-    true
-}
 
-/// Whether all parents of the block are of earlier rounds.
-fn parents_earlier<B: Library>(book: &B, name: u32) -> bool
-    ensures { result ≡ all_earlier (B.Library.what book.now) (B.Library.what book.now name).round (B.Library.what book.now name).parents }
-{
-    let round = book.round(name);
-    for at in 0..book.parents(name) {
-        if book.round(book.parent(name, at)) >= round {
-            return false;
-        }
+    /// How many parents it has.
+    fn parents(&self) -> u32
+        ensures { result ≡ length (block_of B.what self.now).parents }
+    {
+        self.book.parents(self.name)
     }
-    true
-}
 
-/// Whether a name is among the parents of the block from a place on.
-fn is_parent_from<B: Library>(book: &B, name: u32, from: u32, sought: u32) -> bool
-    ensures { result ≡ is_in sought (drop from (B.Library.what book.now name).parents) }
-{
-    for at in from..book.parents(name) {
-        if sought == book.parent(name, at) {
-            return true;
-        }
+    /// The name of its parent at a place, from 0.
+    fn parent(&self, at: u32) -> u32
+        ensures { result ≡ slice_index (block_of B.what self.now).parents at }
+    {
+        self.book.parent(self.name, at)
     }
-    false
-}
 
-/// Whether no parent of the block stands there twice.
-fn parents_differ<B: Library>(book: &B, name: u32) -> bool
-    ensures { result ≡ distinct (B.Library.what book.now name).parents }
-{
-    for at in 0..book.parents(name) {
-        if is_parent_from(book, name, at + 1, book.parent(name, at)) {
-            return false;
-        }
+    /// Whether this is another block of its author and round.
+    fn has_as_rival(&self, other: u32) -> bool
+        ensures { result ≡ (not (self.now.name == other) && ((block_of B.what self.now).author == (book_of B.what self.now other).author)
+            && (block_of B.what self.now).round == (book_of B.what self.now other).round) }
+    {
+        self.name != other
+            && self.author() == self.book.author(other)
+            && self.round() == self.book.round(other)
     }
-    true
-}
 
-/// Whether the block is of this round, and a member's.
-fn is_members_at<B: Library>(book: &B, faults: Faults, round: u32, name: u32) -> bool
-    ensures { result ≡ ((B.Library.what book.now name).round == round && nat_lt (B.Library.what book.now name).author (members_of faults.f)) }
-{
-    book.round(name) == round && faults.has_member(book.author(name))
-}
-
-/// The members that made those parents of the block that are of this round.
-fn authors_at<B: Library>(book: &B, faults: Faults, round: u32, name: u32) -> MemberSet
-    ensures { Holds result.bits (authors_at faults.f (B.Library.what book.now) round (B.Library.what book.now name).parents) }
-{
-    let mut authors = MemberSet::empty();
-    // from the last parent to the first, since each author goes in front of those that are there
-    for at in (0..book.parents(name)).rev() {
-        let parent = book.parent(name, at);
-        if is_members_at(book, faults, round, parent) {
-            // a member's number is small enough for a set of members, so this is always done
-            let _ = authors.insert(book.author(parent));
-        }
+    /// Whether a rival of it is among these.
+    fn has_rival(&self, names: &[u32]) -> bool
+        ensures { result ≡ rival (book_of B.what self.now) self.now.name names.now }
+    {
+        names.iter().any(|other| self.has_as_rival(*other))
     }
-    authors
-}
 
-/// Whether a quorum of different members made the block's parents of the round before; in round 0 there is no round before.
-fn builds_on_quorum<B: Library>(book: &B, faults: Faults, name: u32) -> bool
-    ensures { result ≡ ((B.Library.what book.now name).round == 0 || nat_le (quorum faults.f) (different
-        (authors_at faults.f (B.Library.what book.now) ((B.Library.what book.now name).round - 1) (B.Library.what book.now name).parents))) }
-{
-    let round = book.round(name);
-    round == 0 || authors_at(book, faults, round - 1, name).is_quorum(faults)
-}
+    /// Whether all its parents are among these.
+    fn parents_among(&self, names: &[u32]) -> bool
+        ensures { result ≡ all_in (block_of B.what self.now).parents names.now }
+    {
+        (0..self.parents()).all(|at| names.contains(&self.parent(at)))
+    }
 
-/// Whether the block is valid: its author is a member, its parents are different and of earlier rounds, and it builds on a quorum.
-pub fn is_valid<B: Library>(book: &B, faults: Faults, name: u32) -> bool
-    ensures { result ≡ valid faults.f (B.Library.what book.now) (B.Library.what book.now name) }
-{
-    faults.has_member(book.author(name))
-        && parents_differ(book, name)
-        && parents_earlier(book, name)
-        && builds_on_quorum(book, faults, name)
-}
+    /// Whether all its parents are of earlier rounds.
+    fn parents_earlier(&self) -> bool
+        ensures { result ≡ all_earlier (book_of B.what self.now) (block_of B.what self.now).round (block_of B.what self.now).parents }
+    {
+        let round = self.round();
+        (0..self.parents()).all(|at| self.book.round(self.parent(at)) < round)
+    }
 
-/// Whether a member that has signed these may sign the block.
-pub fn may_sign<B: Library>(
-    book: &B,
-    faults: Faults,
-    name: u32,
-    genuine: bool,
-    signed: &[u32],
-) -> bool
-    ensures { result ≡ (valid faults.f (B.Library.what book.now) (B.Library.what book.now name) && genuine
-        && not (rival (B.Library.what book.now) name signed.now)) }
-{
-    is_valid(book, faults, name) && genuine && !has_rival(book, name, signed)
-}
+    /// Whether its parent at a place stands behind that place again.
+    fn comes_again(&self, at: u32) -> bool
+        requires { at < length (block_of B.what self.now).parents }
+        ensures { result ≡ is_in (slice_index (block_of B.what self.now).parents at) (drop (at + 1) (block_of B.what self.now).parents) }
+    {
+        let count = self.parents();
+        let parent = self.parent(at);
+        (at + 1..count).any(|later| self.parent(later) == parent)
+    }
 
-/// Whether a member that has taken these in may take the block in.
-pub fn may_take<B: Library>(book: &B, name: u32, certified: bool, taken: &[u32]) -> bool
-    ensures { result ≡ (certified && all_in (B.Library.what book.now name).parents taken.now && not (is_in name taken.now)
-        && not (rival (B.Library.what book.now) name taken.now)) }
-{
-    certified
-        && parents_among(book, name, taken)
-        && !is_among(name, taken)
-        && !has_rival(book, name, taken)
-}
+    /// Whether no parent stands there twice.
+    fn parents_differ(&self) -> bool
+        ensures { result ≡ distinct (block_of B.what self.now).parents }
+    {
+        (0..self.parents()).all(|at| !self.comes_again(at))
+    }
 
-/// Whether the member of this number, with this next round and this web, may make the block.
-pub fn may_make<B: Library>(
-    book: &B,
-    faults: Faults,
-    number: u32,
-    round: u32,
-    name: u32,
-    web: &[u32],
-) -> bool
-    ensures { result ≡ (valid faults.f (B.Library.what book.now) (B.Library.what book.now name) && ((B.Library.what book.now name).author == number)
-        && (B.Library.what book.now name).round == round && all_in (B.Library.what book.now name).parents web.now) }
-{
-    let sound = is_valid(book, faults, name);
-    sound
-        && book.author(name) == number
-        && book.round(name) == round
-        && parents_among(book, name, web)
+    /// Whether this block of its book is of this round, and a member's.
+    fn is_members_at(&self, faults: Faults, round: u32, other: u32) -> bool
+        ensures { result ≡ ((book_of B.what self.now other).round == round && nat_lt (book_of B.what self.now other).author (members_of faults.f)) }
+    {
+        self.book.round(other) == round && faults.has_member(self.book.author(other))
+    }
+
+    /// The members that made those of its parents that are of this round.
+    fn authors_at(&self, faults: Faults, round: u32) -> MemberSet
+        ensures { Holds result.bits (authors_at faults.f (book_of B.what self.now) round (block_of B.what self.now).parents) }
+    {
+        let mut authors = MemberSet::empty();
+        // from the last parent to the first, since each author goes in front of those that are there; a fold over the places is no plainer, since
+        // its closure would hand the set on by value only to change it in place
+        for at in (0..self.parents()).rev() {
+            let parent = self.parent(at);
+            if self.is_members_at(faults, round, parent) {
+                // a member's number is small enough for a set of members, so this is always done
+                let _ = authors.insert(self.book.author(parent));
+            }
+        }
+        authors
+    }
+
+    /// Whether a quorum of different members made its parents of the round before; in round 0 there is no round before.
+    fn builds_on_quorum(&self, faults: Faults) -> bool
+        ensures { result ≡ ((block_of B.what self.now).round == 0 || nat_le (quorum faults.f) (different
+            (authors_at faults.f (book_of B.what self.now) ((block_of B.what self.now).round - 1) (block_of B.what self.now).parents))) }
+    {
+        let round = self.round();
+        round == 0 || self.authors_at(faults, round - 1).is_quorum(faults)
+    }
+
+    #[tactic(auto, unfolding(model::specs::Blocks::valid))]
+    /// Whether it is valid: its author is a member, its parents are different and of earlier rounds, and it builds on a quorum.
+    fn is_valid(&self, faults: Faults) -> bool
+        ensures { result ≡ valid faults.f (book_of B.what self.now) (block_of B.what self.now) }
+    {
+        faults.has_member(self.author())
+            && self.parents_differ()
+            && self.parents_earlier()
+            && self.builds_on_quorum(faults)
+    }
+
+    /// Whether a member that has signed these may sign it.
+    pub fn may_sign(&self, faults: Faults, genuine: bool, signed: &[u32]) -> bool
+        ensures { result ≡ (valid faults.f (book_of B.what self.now) (block_of B.what self.now) && genuine
+            && not (rival (book_of B.what self.now) self.now.name signed.now)) }
+    {
+        self.is_valid(faults) && genuine && !self.has_rival(signed)
+    }
+
+    /// Whether a member that has taken these in may take it in.
+    #[tactic(auto, using(crate::proofs::Walks::is_in_has))]
+    pub fn may_take(&self, certified: bool, taken: &[u32]) -> bool
+        ensures { result ≡ (certified && all_in (block_of B.what self.now).parents taken.now && not (is_in self.now.name taken.now)
+            && not (rival (book_of B.what self.now) self.now.name taken.now)) }
+    {
+        certified
+            && self.parents_among(taken)
+            && !taken.contains(&self.name)
+            && !self.has_rival(taken)
+    }
+
+    /// Whether the member of this number, with this next round and this web, may make it.
+    pub fn may_make(&self, faults: Faults, number: u32, round: u32, web: &[u32]) -> bool
+        ensures { result ≡ (valid faults.f (book_of B.what self.now) (block_of B.what self.now) && ((block_of B.what self.now).author == number)
+            && (block_of B.what self.now).round == round && all_in (block_of B.what self.now).parents web.now) }
+    {
+        self.author() == number
+            && self.round() == round
+            && self.is_valid(faults)
+            && self.parents_among(web)
+    }
 }

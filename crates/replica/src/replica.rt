@@ -2,9 +2,9 @@
 ghost use Rattle.std.specs.Prelude.{◌≡◌};
 ghost use Rattle.model.specs.Seat.{answer};
 ghost use Rattle.replica.specs.Answers.{number_of};
-ghost use Rattle.replica.specs.Lists.{items};
+ghost use Rattle.replica.specs.Lists.{held};
 
-use crate::checks::{may_make, may_sign, may_take};
+use crate::checks::Candidate;
 use crate::names::NameList;
 use crate::seat::{Denied, Seat};
 use book::library::Library;
@@ -41,7 +41,7 @@ fn allowed(may: bool, full: bool) -> Result<(), Denied>
 }
 
 impl Seat for Replica {
-    ghost me = { λ s. record { web = items s.web; signed = items s.signed; round = s.round } };
+    ghost me = { held };
 
     ghost number = { λ s. s.number };
 
@@ -61,26 +61,24 @@ impl Seat for Replica {
         name: u32,
         genuine: bool,
     ) -> Result<LeaveToSign, Denied> {
-        let may = may_sign(book, faults, name, genuine, self.signed.as_slice());
+        let may = Candidate { book, name }.may_sign(faults, genuine, self.signed.as_slice());
         allowed(may, self.signed.is_full())?;
         self.signed.insert(name);
         Ok(LeaveToSign::give(self.number, name))
     }
 
     fn take<B: Library>(&mut self, book: &B, name: u32, certified: bool) -> Result<(), Denied> {
-        let may = may_take(book, name, certified, self.web.as_slice());
+        let may = Candidate { book, name }.may_take(certified, self.web.as_slice());
         allowed(may, self.web.is_full())?;
         self.web.push(name);
         Ok(())
     }
 
     fn make<B: Library>(&mut self, book: &B, faults: Faults, name: u32) -> Result<(), Denied> {
-        let may = may_make(
-            book,
+        let may = Candidate { book, name }.may_make(
             faults,
             self.number,
             self.round,
-            name,
             self.web.as_slice(),
         );
         allowed(may, self.round >= ROUND_LIMIT)?;

@@ -5,14 +5,15 @@ use Rattle.model.specs.Thresholds.{members}
 use Rattle.model.specs.Blocks.{authors_at}
 use Rattle.model.proofs.Thresholds.{members-fit}
 use Rattle.members.specs.Sets.{Holds}
+use Rattle.replica.specs.Candidates.{book_of, block_of}
 use Rattle.replica.proofs.Walks.{author_counts, author_passed, not_refused}
-use Rattle.replica.proofs.checks.authors_at.Goals as goal
+use Rattle.replica.proofs.checks.Candidate.authors_at.Goals as goal
 
 pub loop-at-init : goal.loop-at-init
 unfolding authors_at
 loop-at-init g c =
-    let b = g.B.Library.what c.args.book.now in
-    let parents = (b c.args.name).parents in
+    let b = book_of g.B.Library.what c.args.self.now in
+    let parents = (block_of g.B.Library.what c.args.self.now).parents in
     let past : length parents ≤ c.parents-at.result = omega arith in
     subst (λ (xs : List ℕ). Holds c.empty-authors.result.bits xs)
     (sym (at_drop_all (authors_at c.args.faults.f b c.args.round) parents c.parents-at.result past)) c.empty-authors.ensures.holds
@@ -20,8 +21,8 @@ loop-at-init g c =
 pub loop-at-preserved-then-is_members_at : goal.loop-at-preserved-then-is_members_at
 loop-at-preserved-then-is_members_at g c =
     let f = c.args.faults.f in
-    let b = g.B.Library.what c.args.book.now in
-    let parents = (b c.args.name).parents in
+    let b = book_of g.B.Library.what c.args.self.now in
+    let parents = (block_of g.B.Library.what c.args.self.now).parents in
     let i = c.loop-at.at - 1 in
     let next : i + 1 ≡ c.loop-at.at = omega arith in
     let there : i < length parents = omega arith in
@@ -40,8 +41,8 @@ loop-at-preserved-then-is_members_at g c =
 pub loop-at-preserved : goal.loop-at-preserved
 loop-at-preserved g c =
     let f = c.args.faults.f in
-    let b = g.B.Library.what c.args.book.now in
-    let parents = (b c.args.name).parents in
+    let b = book_of g.B.Library.what c.args.self.now in
+    let parents = (block_of g.B.Library.what c.args.self.now).parents in
     let i = c.loop-at.at - 1 in
     let next : i + 1 ≡ c.loop-at.at = omega arith in
     let there : i < length parents = omega arith in
