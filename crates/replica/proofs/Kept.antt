@@ -92,22 +92,13 @@ taken f b certified x m ok k t free =
       room = few;
     }
 
-same_web : (f : ℕ) (b : Book) (m m' : Member) → m'.web ≡ m.web → Kept f b m → Kept f b m'
-same_web f b m m' e k =
-    record {
-      once = subst (λ web. T (distinct web)) (sym e) k.once;
-      whole = subst (λ web. T (whole_all b web web)) (sym e) k.whole;
-      fits = subst (λ web. T (fit f b web)) (sym e) k.fits;
-      room = subst (λ (web : List ℕ). length web ≤ seat_limit) (sym e) k.room;
-    }
-
 pub step_kept : (f i : ℕ) (b : Book) (c : Call) (m : Member) → Certifies f b c → Kept f b m → Kept f b (called f i b c m)
 step_kept f i b (Sign x genuine) m ok k =
-    after_cases (Kept f b) (signable f b genuine x m) (full_signed m) (after_sign x m) m (λ _ _. same_web f b m (after_sign x m) refl k) k
+    after_cases (Kept f b) (signable f b genuine x m) (full_signed m) (after_sign x m) m (λ _ _. k) k
 step_kept f i b (Take x certified) m ok k =
     after_cases (Kept f b) (takable b certified x m) (full_web m) (after_take x m) m (taken f b certified x m ok k) k
 step_kept f i b (Make x) m ok k =
-    after_cases (Kept f b) (makable f b i x m) (full_round m) (after_make m) m (λ _ _. same_web f b m (after_make m) refl k) k
+    after_cases (Kept f b) (makable f b i x m) (full_round m) (after_make m) m (λ _ _. k) k
 
 -- ---- a book that grows
 authors_same : (f : ℕ) (b b' : Book) (r : ℕ) (xs : List ℕ) → ((x : ℕ) → In x xs → b' x ≡ b x) → authors_at f b' r xs ≡ authors_at f b r xs

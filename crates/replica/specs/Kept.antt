@@ -1,18 +1,15 @@
 -- What a seat's web keeps: all that reading an order off it asks. Stated over the steps of a seat, and over whole runs of calls. Assumes nothing.
-use Rattle.std.specs.Prelude.{◌≡◌, ℕ, ◌≤◌, Bool, T, length}
-use Rattle.model.specs.Names.{is_in, distinct}
+use Rattle.std.specs.Prelude.{◌≡◌, ℕ, Bool, T}
+use Rattle.model.specs.Names.{is_in}
 use Rattle.model.specs.Blocks.{Book, valid}
 use Rattle.model.specs.Member.{Member, new_member, signable, takable, makable, after_sign, after_take, after_make}
-use Rattle.model.specs.Seat.{seat_limit, answer, after, full_signed, full_web, full_round, fit}
-use Rattle.model.specs.Promise.{whole_all}
+use Rattle.model.specs.Seat.{answer, after, full_signed, full_web, full_round}
+use Rattle.model.specs.Reading.{Readable}
 
--- the member's web has each name once, with all that is reached from it, valid blocks of which no two are of one author and round, and no more
--- than a seat has room for: what reading the order asks
-pub record Kept (f : ℕ) (b : Book) (m : Member) : Type 0 where
-  pub once : T (distinct m.web)
-  pub whole : T (whole_all b m.web m.web)
-  pub fits : T (fit f b m.web)
-  pub room : length m.web ≤ seat_limit
+-- the member's web is as reading the order asks: each name once, with all that is reached from it, valid blocks of which no two are of one author
+-- and round, and no more than a seat has room for
+abbrev pub Kept : ℕ → Book → Member → Type 0
+Kept f b m = Readable f b m.web
 
 -- the second book says of what the member has taken in what the first one says: so it is where a book only grows
 abbrev pub SameOf : Book → Book → Member → Type 0

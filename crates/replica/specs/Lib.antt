@@ -1,4 +1,4 @@
 pub mod Answers
-pub mod Lists
+pub mod Held
 pub mod Kept
 pub mod Candidates

@@ -126,8 +126,8 @@ impl<B: Library> Candidate<'_, B> {
         round == 0 || self.authors_at(faults, round - 1).is_quorum(faults)
     }
 
-    #[tactic(auto, unfolding(model::specs::Blocks::valid))]
     /// Whether it is valid: its author is a member, its parents are different and of earlier rounds, and it builds on a quorum.
+    #[tactic(auto, unfolding(model::specs::Blocks::valid))]
     fn is_valid(&self, faults: Faults) -> bool
         ensures { result ≡ valid faults.f (book_of B.what self.now) (block_of B.what self.now) }
     {

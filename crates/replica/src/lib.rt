@@ -9,7 +9,7 @@ mod replica;
 mod seat;
 
 pub use replica::{LeaveToSign, Replica, Spent};
-pub use seat::{Denied, Seat};
+pub use seat::{Denied, ROOM, Seat};
 
 /// Reading the order asks that a web is whole, has nothing twice, and holds valid blocks without rivals. A web that was taken in from
 /// certified blocks is so, through every run of calls, and also where the book grows meanwhile.

@@ -3,16 +3,15 @@ ghost use Rattle.std.specs.Prelude.{◌≡◌, ◌<◌, cond, [], ◌∷◌, len
 ghost use Rattle.model.specs.Names.{is_in};
 ghost use Rattle.model.specs.Seat.{seat_limit};
 
+use crate::seat::ROOM;
 use std::marker::Model;
 
-/// At most so many names have room in a list.
-const LIMIT: usize = 4096;
-
-/// A list of names, the latest first: contracts see the list alone. An array with an index beside it, and no `Vec`, since a seat's memory is
-/// fixed. The array is filled from its end: the list is what stands from `from` on, so that to put a name in front of it moves nothing.
+/// A list of names, the latest first: contracts see the list alone. The array is filled from its end: the list is what stands from `from` on, so
+/// that to put a name in front of it moves nothing.
+// An array with an index beside it, and no `Vec`: a seat's memory is fixed.
 #[derive(Drop)]
 pub struct NameList {
-    names: [u32; LIMIT],
+    names: [u32; ROOM],
     from: usize,
 }
 
@@ -33,8 +32,8 @@ impl NameList {
         ensures { result ≡ [] }
     {
         NameList {
-            names: [0; LIMIT],
-            from: LIMIT,
+            names: [0; ROOM],
+            from: ROOM,
         }
     }
 

@@ -2,11 +2,11 @@
 ghost use Rattle.std.specs.Prelude.{◌≡◌};
 ghost use Rattle.model.specs.Seat.{answer};
 ghost use Rattle.replica.specs.Answers.{number_of};
-ghost use Rattle.replica.specs.Lists.{held};
+ghost use Rattle.replica.specs.Held.{held};
 
 use crate::checks::Candidate;
 use crate::names::NameList;
-use crate::seat::{Denied, Seat};
+use crate::seat::{Denied, ROOM, Seat};
 use book::library::Library;
 use members::Faults;
 use order::read_order;
@@ -86,7 +86,7 @@ impl Seat for Replica {
         Ok(())
     }
 
-    fn order<B: Library>(&self, book: &B, faults: Faults, out: &mut [u32; 4096]) -> u32 {
+    fn order<B: Library>(&self, book: &B, faults: Faults, out: &mut [u32; ROOM]) -> u32 {
         read_order(book, faults, self.web.as_slice(), out)
     }
 }

@@ -3,7 +3,7 @@ ghost use Rattle.std.specs.Prelude.{◌≡◌, ℕ, Some, length};
 ghost use Rattle.model.specs.Order.{order};
 ghost use Rattle.model.specs.Reading.{Readable};
 ghost use Rattle.model.specs.Member.{Member, new_member, signable, takable, makable, after_sign, after_take, after_make};
-ghost use Rattle.model.specs.Seat.{answer, after, full_signed, full_web, full_round, padded};
+ghost use Rattle.model.specs.Seat.{answer, after, full_signed, full_web, full_round, padded, seat_limit};
 ghost use Rattle.replica.specs.Answers.{number_of, told, LeaveFor};
 
 use crate::replica::LeaveToSign;
@@ -11,6 +11,9 @@ use book::library::Library;
 use members::Faults;
 use std::error::Error;
 use std::fmt;
+
+/// A seat has room for so many names in its web, and as many that it signed.
+pub const ROOM: usize = 4096;
 
 /// Why a seat doesn't do what it is asked: it may not be done, or there is no room. That it may not is looked for before that there is no
 /// room, and what isn't done changes nothing.
@@ -75,8 +78,8 @@ pub trait Seat {
 
     /// The order that the member reads off its web: how long it is, and in `out` its names with noughts behind them. The book has to be the
     /// one by which the web was taken in, or what that has grown to.
-    fn order<B: Library>(&self, book: &B, faults: Faults, out: &mut [u32; 4096]) -> u32
+    fn order<B: Library>(&self, book: &B, faults: Faults, out: &mut [u32; ROOM]) -> u32
         requires { Readable faults.f (B.Library.what book.now) (me self.now).web }
         ensures count { result ≡ length (order faults.f (B.Library.what book.now) (me self.now).web) }
-        ensures listed { out.new ≡ padded 4096 (order faults.f (B.Library.what book.now) (me self.now).web) };
+        ensures listed { out.new ≡ padded seat_limit (order faults.f (B.Library.what book.now) (me self.now).web) };
 }
