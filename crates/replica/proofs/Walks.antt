@@ -1,6 +1,5 @@
--- A walk along a list by places: a test of the whole list, asked of one after the other, is the test of what is still to be walked.
--- Assumes nothing.
-use Rattle.std.proofs.Common.{◌≡◌, ℕ, zero, suc, ◌+◌, ◌<◌, ◌≤◌, Bool, true, false, cond, not, ◌&&◌, ◌||◌, eqb, ltb, nat_eq, List, [], ◌∷◌, length, get_or, drop, Ok, Err, Result, refl, ap, sym, ◌∙◌, arith}
+-- The definitions of lists of names, in the words of std's `any`, `all` and `contains`. Assumes nothing.
+use Rattle.std.proofs.Common.{◌≡◌, ℕ, zero, suc, ◌+◌, ◌<◌, Bool, true, false, cond, not, ◌&&◌, eqb, ltb, nat_eq, List, [], ◌∷◌, length, get_or, drop, Ok, Err, Result, refl, ◌∙◌, arith}
 use Rattle.std.specs.List.{list_any, list_all, range_with_len}
 use Rattle.std.proofs.lemmas.List.{at_drop_more, at_drop_all}
 use Rattle.std.proofs.lemmas.Bool.{cond-true, cond-false}
@@ -9,34 +8,6 @@ use Rattle.model.specs.Names.{is_in, all_in, distinct}
 use Rattle.model.specs.Thresholds.{members}
 use Rattle.model.specs.Blocks.{Book, authors_at, all_earlier}
 use Rattle.model.specs.Member.{rival}
-
--- F tells of a list whether one of it passes p
-pub record AnyOf (p : ℕ → Bool) (F : List ℕ → Bool) : Type 0 where
-  pub none : F [] ≡ false
-  pub more : (x : ℕ) (xs : List ℕ) → F (x ∷ xs) ≡ (p x || F xs)
-
--- F tells of a list whether all of it passes p, which may ask what stands behind
-pub record AllOf (p : ℕ → List ℕ → Bool) (F : List ℕ → Bool) : Type 0 where
-  pub none : F [] ≡ true
-  pub more : (x : ℕ) (xs : List ℕ) → F (x ∷ xs) ≡ (p x xs && F xs)
-
--- What a list is asked of by its places, from place a on, is asked of what stands there.
-pub any_places :
-    {p : ℕ → Bool} {F : List ℕ → Bool} → AnyOf p F → (xs : List ℕ) (a n : ℕ) → a + n ≡ length xs →
-    list_any (λ i. p (get_or xs i 0)) (range_with_len a n) ≡ F (drop a xs)
-any_places {p} {F} any xs a zero e = sym (at_drop_all F xs a (omega arith) ∙ any.none)
-any_places {p} {F} any xs a (suc n) e =
-    let rest = any_places any xs (a + 1) n (omega arith) in
-    ap (λ (v : Bool). p (get_or xs a 0) || v) rest ∙ sym (at_drop_more F xs a 0 (omega arith) ∙ any.more (get_or xs a 0) (drop (a + 1) xs))
-
-pub all_places :
-    {p : ℕ → List ℕ → Bool} {F : List ℕ → Bool} → AllOf p F → (xs : List ℕ) (a n : ℕ) → a + n ≡ length xs →
-    list_all (λ i. p (get_or xs i 0) (drop (i + 1) xs)) (range_with_len a n) ≡ F (drop a xs)
-all_places {p} {F} all xs a zero e = sym (at_drop_all F xs a (omega arith) ∙ all.none)
-all_places {p} {F} all xs a (suc n) e =
-    let rest = all_places all xs (a + 1) n (omega arith) in
-    ap (λ (v : Bool). p (get_or xs a 0) (drop (a + 1) xs) && v) rest ∙
-    sym (at_drop_more F xs a 0 (omega arith) ∙ all.more (get_or xs a 0) (drop (a + 1) xs))
 
 -- what a slice's `contains` answers
 abbrev pub has : List ℕ → ℕ → Bool
@@ -47,24 +18,10 @@ unfolding is_in
 is_in_has x [] = refl
 is_in_has x (y ∷ ys) = grind (arith, nat_tests, is_in_has x ys)
 
-same_eqb : (x y : ℕ) → eqb x y ≡ eqb y x
-same_eqb x y = grind (arith, nat_tests)
-
-pub is_in_any : (x : ℕ) → AnyOf (λ y. eqb y x) (is_in x)
-unfolding is_in
-is_in_any x = record { none = refl; more = λ y ys. ap (λ (v : Bool). v || is_in x ys) (same_eqb x y) }
-
-pub all_in_all : (ys : List ℕ) → AllOf (λ x _. has ys x) (λ xs. all_in xs ys)
+pub all_in_has : (xs ys : List ℕ) → all_in xs ys ≡ list_all (has ys) xs
 unfolding all_in
-all_in_all ys = record { none = refl; more = λ x xs. ap (λ (v : Bool). v && all_in xs ys) (is_in_has x ys) }
-
-pub earlier_all : (b : Book) (r : ℕ) → AllOf (λ x _. ltb (b x).round r) (all_earlier b r)
-unfolding all_earlier
-earlier_all b r = record { none = refl; more = λ _ _. refl }
-
-pub distinct_all : AllOf (λ x xs. not (is_in x xs)) distinct
-unfolding distinct
-distinct_all = record { none = refl; more = λ _ _. refl }
+all_in_has [] ys = refl
+all_in_has (x ∷ xs) ys = rw (is_in_has x ys, all_in_has xs ys)
 
 pub rival_any :
     (b : Book) (x : ℕ) (xs : List ℕ) →
@@ -72,6 +29,28 @@ pub rival_any :
 unfolding rival
 rival_any b x [] = refl
 rival_any b x (y ∷ ys) = rw (rival_any b x ys)
+
+pub earlier_all : (b : Book) (r : ℕ) (xs : List ℕ) → all_earlier b r xs ≡ list_all (λ x. ltb (b x).round r) xs
+unfolding all_earlier
+earlier_all b r [] = refl
+earlier_all b r (x ∷ xs) = rw (earlier_all b r xs)
+
+-- the same by places: what stands from place a on, at the n places that are left
+pub is_in_places :
+    (x : ℕ) (xs : List ℕ) (a n : ℕ) → a + n ≡ length xs → is_in x (drop a xs) ≡ list_any (λ i. eqb (get_or xs i 0) x) (range_with_len a n)
+unfolding is_in
+is_in_places x xs a zero e = at_drop_all (is_in x) xs a (omega arith)
+is_in_places x xs a (suc n) e =
+    let rest = is_in_places x xs (a + 1) n (omega arith) in
+    let here = at_drop_more (is_in x) xs a 0 (omega arith) in
+    grind (arith, nat_tests, here, rest)
+
+pub distinct_places :
+    (xs : List ℕ) (a n : ℕ) → a + n ≡ length xs →
+    distinct (drop a xs) ≡ list_all (λ i. not (is_in (get_or xs i 0) (drop (i + 1) xs))) (range_with_len a n)
+unfolding distinct
+distinct_places xs a zero e = at_drop_all distinct xs a (omega arith)
+distinct_places xs a (suc n) e = at_drop_more distinct xs a 0 (omega arith) ∙ rw (distinct_places xs (a + 1) n (omega arith))
 
 -- The authors of what is left from place i on, by those from the next place j on: the walk goes from the last place to the first.
 module _ (f : ℕ) (b : Book) (r : ℕ) (xs : List ℕ) (i j : ℕ) (next : i + 1 ≡ j) (there : i < length xs) where

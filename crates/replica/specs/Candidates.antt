@@ -1,5 +1,4 @@
 -- Which block a seat is asked about. Assumes nothing.
-use Rattle.std.specs.Prelude.{ℕ}
 use Rattle.model.specs.Blocks.{Book, Block}
 use Rattle.replica.specs.declared.checks.Candidate.{Candidate}
 

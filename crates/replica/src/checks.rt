@@ -7,7 +7,7 @@ ghost use Rattle.model.specs.Member.{rival};
 ghost use Rattle.members.specs.Sets.{Holds};
 ghost use Rattle.replica.specs.Candidates.{book_of, block_of};
 
-use book::library::Library;
+use book::library::{Library, Parents, parents_of};
 use members::{Faults, MemberSet};
 
 /// A block that a seat is asked about: its name, and the book that tells which block that is.
@@ -17,7 +17,7 @@ pub struct Candidate<'a, B> {
     pub name: u32,
 }
 
-impl<B: Library> Candidate<'_, B> {
+impl<'a, B: Library> Candidate<'a, B> {
     fn author(&self) -> u32
         ensures { result ≡ (block_of B.what self.now).author }
     {
@@ -30,8 +30,15 @@ impl<B: Library> Candidate<'_, B> {
         self.book.round(self.name)
     }
 
+    /// The names of its parents.
+    fn parents(&self) -> Parents<'a, B>
+        ensures { result ≡ (block_of B.what self.now).parents }
+    {
+        parents_of(self.book, self.name)
+    }
+
     /// How many parents it has.
-    fn parents(&self) -> u32
+    fn parent_count(&self) -> u32
         ensures { result ≡ length (block_of B.what self.now).parents }
     {
         self.book.parents(self.name)
@@ -65,7 +72,7 @@ impl<B: Library> Candidate<'_, B> {
     fn parents_among(&self, names: &[u32]) -> bool
         ensures { result ≡ all_in (block_of B.what self.now).parents names.now }
     {
-        (0..self.parents()).all(|at| names.contains(&self.parent(at)))
+        self.parents().all(|parent| names.contains(&parent))
     }
 
     /// Whether all its parents are of earlier rounds.
@@ -73,7 +80,7 @@ impl<B: Library> Candidate<'_, B> {
         ensures { result ≡ all_earlier (book_of B.what self.now) (block_of B.what self.now).round (block_of B.what self.now).parents }
     {
         let round = self.round();
-        (0..self.parents()).all(|at| self.book.round(self.parent(at)) < round)
+        self.parents().all(|parent| self.book.round(parent) < round)
     }
 
     /// Whether its parent at a place stands behind that place again.
@@ -81,7 +88,7 @@ impl<B: Library> Candidate<'_, B> {
         requires { at < length (block_of B.what self.now).parents }
         ensures { result ≡ is_in (slice_index (block_of B.what self.now).parents at) (drop (at + 1) (block_of B.what self.now).parents) }
     {
-        let count = self.parents();
+        let count = self.parent_count();
         let parent = self.parent(at);
         (at + 1..count).any(|later| self.parent(later) == parent)
     }
@@ -90,7 +97,7 @@ impl<B: Library> Candidate<'_, B> {
     fn parents_differ(&self) -> bool
         ensures { result ≡ distinct (block_of B.what self.now).parents }
     {
-        (0..self.parents()).all(|at| !self.comes_again(at))
+        (0..self.parent_count()).all(|at| !self.comes_again(at))
     }
 
     /// Whether this block of its book is of this round, and a member's.
@@ -107,7 +114,7 @@ impl<B: Library> Candidate<'_, B> {
         let mut authors = MemberSet::empty();
         // from the last parent to the first, since each author goes in front of those that are there; a fold over the places is no plainer, since
         // its closure would hand the set on by value only to change it in place
-        for at in (0..self.parents()).rev() {
+        for at in (0..self.parent_count()).rev() {
             let parent = self.parent(at);
             if self.is_members_at(faults, round, parent) {
                 // a member's number is small enough for a set of members, so this is always done

@@ -14,9 +14,9 @@ unfolding authors_at
 loop-at-init g c =
     let b = book_of g.B.Library.what c.args.self.now in
     let parents = (block_of g.B.Library.what c.args.self.now).parents in
-    let past : length parents ≤ c.parents-at.result = omega arith in
+    let past : length parents ≤ c.parent_count-at.result = omega arith in
     subst (λ (xs : List ℕ). Holds c.empty-authors.result.bits xs)
-    (sym (at_drop_all (authors_at c.args.faults.f b c.args.round) parents c.parents-at.result past)) c.empty-authors.ensures.holds
+    (sym (at_drop_all (authors_at c.args.faults.f b c.args.round) parents c.parent_count-at.result past)) c.empty-authors.ensures.holds
 
 pub loop-at-preserved-then-is_members_at : goal.loop-at-preserved-then-is_members_at
 loop-at-preserved-then-is_members_at g c =

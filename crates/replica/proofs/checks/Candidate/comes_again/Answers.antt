@@ -1,9 +1,9 @@
-use Rattle.std.proofs.Common.{rules, ℕ, ◌+◌, ◌-◌, eqb, drop, length, get_or, ◌∙◌, refl, arith}
+use Rattle.std.proofs.Common.{rules, ◌+◌, ◌-◌, eqb, length, get_or, ◌∙◌, sym, refl, arith}
 use borrow.Author.Tests.{tests}
 use Rattle.std.proofs.lemmas.Iterator.{YieldsList-from_range}
 use Rattle.std.proofs.lemmas.Iterator.Search.{any_from_yields_List}
 use Rattle.replica.specs.Candidates.{block_of}
-use Rattle.replica.proofs.Walks.{any_places, is_in_any}
+use Rattle.replica.proofs.Walks.{is_in_places}
 use Rattle.replica.proofs.checks.Candidate.comes_again.Goals as goal
 
 pub returns : goal.returns
@@ -13,4 +13,4 @@ returns g c =
     any_from_yields_List (λ later. eqb (get_or parents later 0) (get_or parents c.args.at 0)) _ _ _ c.any.ensures.ran
     (YieldsList-from_range (c.args.at + 1) (length parents) left (search rules) refl)
     (λ x b q k. search (rules, tests))
-    ∙ any_places (is_in_any (get_or parents c.args.at 0)) parents (c.args.at + 1) left (omega arith)
+    ∙ sym (is_in_places (get_or parents c.args.at 0) parents (c.args.at + 1) left (omega arith))

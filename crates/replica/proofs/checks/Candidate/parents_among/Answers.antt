@@ -1,15 +1,12 @@
-use Rattle.std.proofs.Common.{rules, ℕ, length, get_or, ◌∙◌, refl, arith}
-use borrow.Author.Tests.{tests}
-use Rattle.std.proofs.lemmas.Iterator.{YieldsList-from_range}
+use Rattle.std.proofs.Common.{rules, tests, ◌∙◌, sym}
+use Rattle.std.proofs.lemmas.Iterator.Consumers.{YieldsList-from_first}
 use Rattle.std.proofs.lemmas.Iterator.Search.{all_from_yields_List}
 use Rattle.replica.specs.Candidates.{block_of}
-use Rattle.replica.proofs.Walks.{has, all_places, all_in_all}
+use Rattle.replica.proofs.Walks.{has, all_in_has}
 use Rattle.replica.proofs.checks.Candidate.parents_among.Goals as goal
 
 pub returns : goal.returns
 returns g c =
-    let parents = (block_of g.B.Library.what c.args.self.now).parents in
-    let names = c.args.names.now in
-    all_from_yields_List (λ at. has names (get_or parents at 0)) _ _ _ c.all.ensures.ran (YieldsList-from_range 0 (length parents) (length parents) (search rules) (omega arith))
+    all_from_yields_List (has c.args.names.now) _ _ _ c.all.ensures.ran (YieldsList-from_first (λ x. x) (λ rest. rest) _ c.parents.ensures)
     (λ x b q k. search (rules, tests))
-    ∙ all_places (all_in_all names) parents 0 (length parents) (omega arith)
+    ∙ sym (all_in_has (block_of g.B.Library.what c.args.self.now).parents c.args.names.now)
