@@ -1,6 +1,7 @@
 -- Numbers that are all below a limit: what one more number, or the first, does to that. Assumes nothing.
-use Rattle.std.proofs.Common.{◌≡◌, ℕ, suc, ◌<◌, ◌≤◌, Bool, true, false, ◌&&◌, T, List, [], ◌∷◌, get_or, sym, refl, ap, ◌∙◌, subst}
+use Rattle.std.proofs.Common.{◌≡◌, ℕ, suc, ◌<◌, ◌≤◌, Bool, true, false, ◌&&◌, T, ltb, List, [], ◌∷◌, get_or, sym, refl, ap, ◌∙◌, subst}
 use Rattle.std.proofs.lemmas.Bool.{lt-ltb, le-ltb}
+use Rattle.std.specs.List.{list_all}
 use Rattle.model.specs.Names.{all_below}
 
 pub first_below : (limit x : ℕ) (xs : List ℕ) → x < limit → all_below limit (x ∷ xs) ≡ all_below limit xs
@@ -18,6 +19,11 @@ none_not_below limit = refl
 pub each_below : (limit : ℕ) → 0 < limit → (xs : List ℕ) → ((i : ℕ) → get_or xs i 0 < limit) → all_below limit xs ≡ true
 each_below limit pos [] h = none_not_below limit
 each_below limit pos (x ∷ xs) h = first_below limit x xs (h 0) ∙ each_below limit pos xs (λ i. h (suc i))
+
+pub all_below_is : (limit : ℕ) (xs : List ℕ) → list_all (λ x. ltb x limit) xs ≡ all_below limit xs
+unfolding all_below
+all_below_is limit [] = refl
+all_below_is limit (x ∷ xs) = ap (λ (b : Bool). ltb x limit && b) (all_below_is limit xs)
 
 -- what a test of the names answered, of a limit that has another name
 pub tested_below : (r : Bool) (limit same : ℕ) (xs : List ℕ) → r ≡ all_below limit xs → r ≡ true → limit ≡ same → T (all_below same xs)

@@ -1,5 +1,8 @@
 -- The blocks that tables hold, by their names: what stands at a name, and what a name past the last one reads as. Assumes nothing.
-use Rattle.std.proofs.Common.{◌≡◌, ℕ, ◌+◌, ◌<◌, ◌≤◌, Bool, false, List, length, get_or, drop, Decides, sym, ap, ◌∙◌, true≢false, arith}
+use Rattle.std.proofs.Common.{◌≡◌, ℕ, ◌+◌, ◌<◌, ◌≤◌, Bool, List, length, get_or, drop, Decides, eqb, ◌&&◌, refl, ap, ◌∙◌, arith}
+use Rattle.std.proofs.lemmas.Bool.Decides.{Decides-and, Decides-eqb}
+use Rattle.std.proofs.lemmas.Slice.Eq.{slice_eq-Decides}
+use Rattle.std.specs.Cmp.Lexicographic.{pointwise}
 use Rattle.std.proofs.lemmas.List.{length-map, get_or-map, get_or_past, length-take-le, length-drop}
 use Rattle.model.specs.Blocks.{Block}
 use Rattle.book.specs.declared.entry.Entry.{Entry}
@@ -18,24 +21,21 @@ block_past es ps ls i h = get_or_past (blocks_of es ps ls) i empty_block (let e 
 pub length-stretch : (xs : List ℕ) (from n : ℕ) → from + n ≤ length xs → length (stretch xs from n) ≡ n
 length-stretch xs from n h = length-take-le n (drop from xs) (let e = length-drop from xs in omega arith)
 
-pub same_parts :
-    (k : Block) (author round : ℕ) (parents load : List ℕ) →
-    k.author ≡ author → k.round ≡ round → k.parents ≡ parents → k.load ≡ load → k ≡ block_of author round parents load
-same_parts k author round parents load a r p l =
-    ap (λ (x : ℕ). block_of x k.round k.parents k.load) a ∙ ap (λ (x : ℕ). block_of author x k.parents k.load) r ∙
-    ap (λ (x : List ℕ). block_of author round x k.load) p ∙ ap (λ (x : List ℕ). block_of author round parents x) l
+-- as `==` compares two blocks: their authors, then their rounds, parents and loads
+abbrev pub same_block : Block → Block → Bool
+same_block a b = eqb a.author b.author && (eqb a.round b.round && (pointwise eqb a.parents b.parents && pointwise eqb a.load b.load))
 
--- where all else is the same, the loads decide whether two blocks are the same
-pub decided_by_loads :
-    (k : Block) (author round : ℕ) (parents load read : List ℕ) (t : Bool) →
-    k.author ≡ author → k.round ≡ round → k.parents ≡ parents → read ≡ k.load → Decides t (read ≡ load) →
-    Decides t (k ≡ block_of author round parents load)
-decided_by_loads k author round parents load read t a r p e d =
-    (λ h. same_parts k author round parents load a r p (sym e ∙ d.0 h), λ h. d.1 (e ∙ ap (λ (b : Block). b.load) h))
+same_parts : (a b : Block) → a.author ≡ b.author → a.round ≡ b.round → a.parents ≡ b.parents → a.load ≡ b.load → a ≡ b
+same_parts a b p q r s =
+    ap (λ (x : ℕ). block_of x a.round a.parents a.load) p ∙ ap (λ (x : ℕ). block_of b.author x a.parents a.load) q ∙
+    ap (λ (x : List ℕ). block_of b.author b.round x a.load) r ∙ ap (λ (x : List ℕ). block_of b.author b.round b.parents x) s
 
--- blocks with other parents aren't the same
-pub decided_by_parents :
-    (k : Block) (author round : ℕ) (parents load read : List ℕ) (t : Bool) →
-    read ≡ k.parents → Decides t (read ≡ parents) → t ≡ false → Decides t (k ≡ block_of author round parents load)
-decided_by_parents k author round parents load read t e d f =
-    (λ h. absurd (true≢false (sym h ∙ f)), λ h. d.1 (e ∙ ap (λ (b : Block). b.parents) h))
+pub same_block_decides : (a b : Block) → Decides (same_block a b) (a ≡ b)
+same_block_decides a b =
+    let parts =
+    Decides-and _ _ (Decides-eqb a.author b.author)
+    (Decides-and _ _ (Decides-eqb a.round b.round)
+    (Decides-and _ _ (slice_eq-Decides Decides-eqb a.parents b.parents _ refl) (slice_eq-Decides Decides-eqb a.load b.load _ refl))) in (
+      λ t. let h = parts.0 t in same_parts a b h.0 h.1.0 h.1.1.0 h.1.1.1,
+      λ e. parts.1 (ap (λ (k : Block). k.author) e, (ap (λ (k : Block). k.round) e, (ap (λ (k : Block). k.parents) e, ap (λ (k : Block). k.load) e))),
+    )

@@ -1,6 +1,6 @@
 -- One more block at the end of a book's blocks: what always holds of a book holds again, and the names before keep what they stand for.
 -- Assumes that the new block is none of the others, isn't too large, and has its parents among them.
-use Rattle.std.proofs.Common.{◌≡◌, ℕ, ◌<◌, ◌≤◌, T, leb, List, [], ◌∷◌, ◌++◌, length, get_or, sym, refl, ap, ◌∙◌, subst, inr, arith, le→leb, below_more}
+use Rattle.std.proofs.Common.{◌≡◌, ℕ, ◌<◌, ◌≤◌, T, leb, List, [], ◌∷◌, ◌++◌, length, sym, refl, ap, ◌∙◌, subst, inr, arith, le→leb, below_more}
 use Rattle.std.proofs.lemmas.List.{get_or_append_left, get_or_push, length_push}
 use Rattle.model.specs.Names.{all_below}
 use Rattle.model.specs.Blocks.{Block, max_parents, max_load, byte_limit, within_limits}
@@ -9,7 +9,6 @@ use Rattle.book.specs.Content.{empty_block, book_of, OneName, Limited, ParentsBe
 use Rattle.book.specs.Memory.{Lent}
 use Rattle.book.specs.Meeting.{Absent, Named, Acceptable, New, Met}
 use Rattle.book.proofs.Filling.{each_more}
-use Rattle.book.proofs.Below.{each_below}
 
 pub names_kept : (ks : List Block) (k : Block) (i : ℕ) → i < length ks → book_of (ks ++ k ∷ []) i ≡ book_of ks i
 names_kept ks k i h = get_or_append_left ks (k ∷ []) empty_block i h
@@ -37,10 +36,9 @@ pub earlier_more : (ks : List Block) (k : Block) → ParentsBefore ks → T (all
 earlier_more ks k earlier new = each_more (λ i b. T (all_below i b.parents)) ks k empty_block earlier new
 
 pub within :
-    (k : Block) → length k.parents ≤ max_parents → length k.load ≤ max_load → ((i : ℕ) → get_or k.load i 0 < byte_limit) → T (within_limits k)
+    (k : Block) → length k.parents ≤ max_parents → length k.load ≤ max_load → T (all_below byte_limit k.load) → T (within_limits k)
 within k few short bytes =
-    and_both _ (all_below byte_limit k.load) (and_both (leb (length k.parents) max_parents) _ (le→leb _ _ few) (le→leb _ _ short))
-    (subst T (sym (each_below byte_limit (omega arith) k.load bytes)) tt)
+    and_both _ (all_below byte_limit k.load) (and_both (leb (length k.parents) max_parents) _ (le→leb _ _ few) (le→leb _ _ short)) bytes
 
 pub met_new :
     (l : Lent) (before : List Block) (k : Block) (n : ℕ) (after : List Block) → Acceptable before k → New l before k n after →

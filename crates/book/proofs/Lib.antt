@@ -1,4 +1,5 @@
 mod Blocks
+mod Finding
 mod Filling
 mod Below
 mod Growing

@@ -1,7 +1,8 @@
 -- What it means that a block is in a book, and what meeting a block does to the book. Assumes nothing.
-use Rattle.std.specs.Prelude.{◌≡◌, ℕ, ◌<◌, ◌≤◌, T, ◌⊎◌, List, [], ◌∷◌, ◌++◌, length, Ok, Err, Result, ◌≢◌}
+use Rattle.std.specs.Prelude.{◌≡◌, ℕ, ◌<◌, ◌≤◌, T, ◌⊎◌, List, [], ◌∷◌, ◌++◌, length, Ok, Err, Result, Some, None, Option, ◌≢◌}
 use Rattle.model.specs.Names.{all_below}
 use Rattle.model.specs.Blocks.{Block, max_parents, max_load}
+use Rattle.book.specs.declared.block.Block.{Block as Shown}
 use Rattle.book.specs.declared.refusal.Refusal.{Refusal}
 use Rattle.book.specs.declared.refusal.Refusal.TheVariants.{TooManyParents, LoadTooLong, NoSuchParent, NoRoom}
 use Rattle.book.specs.Content.{book_of}
@@ -10,6 +11,10 @@ use Rattle.book.specs.Memory.{Lent, HasRoom}
 -- the block of these parts
 abbrev pub block_of : ℕ → ℕ → List ℕ → List ℕ → Block
 block_of author round parents load = record { author = author; round = round; parents = parents; load = load }
+
+-- the block that is met or read, with the lists that its slices show
+abbrev pub shown : Shown → Block
+shown b = block_of b.author b.round b.parents.now b.load.now
 
 -- the block has no name below n
 abbrev pub NoneBelow : ℕ → List Block → Block → Type 0
@@ -24,6 +29,11 @@ pub record Named (blocks : List Block) (k : Block) (n : ℕ) : Type 0 where
   pub there : n < length blocks
   pub stands : book_of blocks n ≡ k
   pub first : NoneBelow n blocks k
+
+-- what looking for the block finds: its name, or that it has none
+abbrev pub Found : List Block → Block → Option ℕ → Type 0
+Found blocks k (Some n) = Named blocks k n
+Found blocks k None = Absent blocks k
 
 -- the block isn't too large, and its parents are in the book
 pub record Acceptable (blocks : List Block) (k : Block) : Type 0 where

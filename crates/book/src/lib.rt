@@ -2,6 +2,7 @@
 // lent memory.
 #![tactic(auto)]
 
+mod block;
 mod book;
 mod entry;
 pub mod library;
@@ -11,6 +12,7 @@ mod tables;
 mod tests;
 mod view;
 
+pub use block::Block;
 pub use book::Book;
 pub use entry::{Entry, MAX_BLOCKS, MAX_LOAD, MAX_PARENTS};
 pub use refusal::Refusal;

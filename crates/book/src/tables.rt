@@ -2,8 +2,9 @@
 ghost use Rattle.std.specs.Prelude.{◌≡◌, ◌≤◌, [], ◌∷◌, ◌++◌, length, Decides};
 ghost use Rattle.model.specs.Blocks.{max_parents, max_load};
 ghost use Rattle.book.specs.Memory.{contents, lent, HasRoom, Counted, ParentsFilled, LoadsFilled, EntriesPlaced};
-ghost use Rattle.book.specs.Meeting.{block_of};
+ghost use Rattle.book.specs.Meeting.{shown};
 
+use crate::block::Block;
 use crate::entry::{Entry, MAX_BLOCKS};
 
 #[derive(Drop)]
@@ -32,34 +33,34 @@ impl Tables<'_> {
     }
 
     // Puts a block behind the others.
-    pub(crate) fn push(&mut self, author: u32, round: u32, parents: &[u32], load: &[u8])
+    pub(crate) fn push(&mut self, block: Block<'_>)
         requires counted { Counted self.old }
         requires parents { ParentsFilled self.old }
         requires loads { LoadsFilled self.old }
         requires placed { EntriesPlaced self.old }
-        requires few { length parents.now ≤ max_parents }
-        requires short { length load.now ≤ max_load }
-        requires room { HasRoom (lent self.old) (contents self.old) (length parents.now) (length load.now) }
+        requires few { length block.parents.now ≤ max_parents }
+        requires short { length block.load.now ≤ max_load }
+        requires room { HasRoom (lent self.old) (contents self.old) (length block.parents.now) (length block.load.now) }
         ensures counted { Counted self.new }
         ensures parents { ParentsFilled self.new }
         ensures loads { LoadsFilled self.new }
         ensures placed { EntriesPlaced self.new }
         ensures lent { lent self.new ≡ lent self.old }
-        ensures contents { contents self.new ≡ contents self.old ++ (block_of author round parents.now load.now ∷ []) }
+        ensures contents { contents self.new ≡ contents self.old ++ (shown block.entry ∷ []) }
     {
         let parents_from = self.parents_used;
-        let parents_end = parents_from + parents.len();
+        let parents_end = parents_from + block.parents.len();
         let load_from = self.loads_used;
-        let load_end = load_from + load.len();
-        self.parents[parents_from..parents_end].copy_from_slice(parents);
-        self.loads[load_from..load_end].copy_from_slice(load);
+        let load_end = load_from + block.load.len();
+        self.parents[parents_from..parents_end].copy_from_slice(block.parents);
+        self.loads[load_from..load_end].copy_from_slice(block.load);
         self.entries[self.count] = Entry {
-            author,
-            round,
+            author: block.author,
+            round: block.round,
             parents_from: parents_from as u32,
-            parents: parents.len() as u32,
+            parents: block.parents.len() as u32,
             load_from: load_from as u32,
-            load: load.len() as u32,
+            load: block.load.len() as u32,
         };
         self.count += 1;
         self.parents_used = parents_end;

@@ -1,9 +1,11 @@
 // Reading a block by its name.
 ghost use Rattle.std.specs.Prelude.{◌≡◌, length};
 ghost use Rattle.book.specs.Content.{book_of, block_at, Placed};
+ghost use Rattle.book.specs.Meeting.{shown};
 ghost use Rattle.book.specs.Views.{held};
 
 use super::View;
+use crate::block::Block;
 use crate::entry::Entry;
 use crate::library::Library;
 
@@ -15,24 +17,34 @@ impl<'a> View<'a> {
         self.entries.len() as u32
     }
 
+    /// The block of this name.
+    pub fn block(&self, name: u32) -> Block<'a>
+        ensures { shown result ≡ book_of (held self.now) name }
+    {
+        let entry = self.entry(name);
+        let parents_from = entry.parents_from as usize;
+        let load_from = entry.load_from as usize;
+        let View { parents, loads, .. } = *self;
+        Block {
+            author: entry.author,
+            round: entry.round,
+            parents: &parents[parents_from..parents_from + entry.parents as usize],
+            load: &loads[load_from..load_from + entry.load as usize],
+        }
+    }
+
     /// The names of a block's parents.
     pub fn parents_of(&self, name: u32) -> &'a [u32]
         ensures { result.now ≡ (book_of (held self.now) name).parents }
     {
-        let entry = self.entry(name);
-        let from = entry.parents_from as usize;
-        let parents = self.parents;
-        &parents[from..from + entry.parents as usize]
+        self.block(name).parents
     }
 
     /// The bytes that a block carries.
     pub fn load(&self, name: u32) -> &'a [u8]
         ensures { result.now ≡ (book_of (held self.now) name).load }
     {
-        let entry = self.entry(name);
-        let from = entry.load_from as usize;
-        let loads = self.loads;
-        &loads[from..from + entry.load as usize]
+        self.block(name).load
     }
 
     // where the block stands; where the empty one would, for a name that isn't there
@@ -40,12 +52,10 @@ impl<'a> View<'a> {
         ensures block { block_at self.now.parents.now self.now.loads.now result ≡ book_of (held self.now) name }
         ensures placed { Placed (length self.now.parents.now) (length self.now.loads.now) result }
     {
-        let name = name as usize;
-        if name < self.entries.len() {
-            self.entries[name]
-        } else {
-            Entry::EMPTY
-        }
+        self.entries
+            .get(name as usize)
+            .copied()
+            .unwrap_or(Entry::EMPTY)
     }
 }
 
@@ -65,11 +75,6 @@ impl Library for View<'_> {
     }
 
     fn parent(&self, name: u32, at: u32) -> u32 {
-        let parents = self.parents_of(name);
-        if (at as usize) < parents.len() {
-            parents[at as usize]
-        } else {
-            0
-        }
+        self.parents_of(name).get(at as usize).copied().unwrap_or(0)
     }
 }

@@ -1,8 +1,8 @@
-use Rattle.std.proofs.Common.{◌≡◌, List, [], ◌∷◌, ◌++◌, sym, subst}
+use Rattle.std.proofs.Common.{◌≡◌, List, [], ◌∷◌, ◌++◌, sym, ◌∙◌, subst, leb-true}
 use Rattle.model.specs.Blocks.{Block}
 use Rattle.book.specs.Content.{OneName, Limited, ParentsBefore}
 use Rattle.book.specs.Memory.{contents}
-use Rattle.book.specs.Meeting.{block_of, Absent}
+use Rattle.book.specs.Meeting.{shown, Absent}
 use Rattle.book.specs.Books.{blocks}
 use Rattle.book.proofs.Below.{tested_below}
 use Rattle.book.proofs.Growing.{apart_more, limited_more, earlier_more, within, met_new}
@@ -11,11 +11,11 @@ use Rattle.book.proofs.book.Book.meet.Goals as goal
 pub invariant_of-self : goal.invariant_of-self
 invariant_of-self c =
     let b = c.args.self.now in
-    let k = block_of c.args.author c.args.round c.args.parents.now c.args.load.now in
+    let k = shown c.args.block in
     let grown : blocks b ++ (k ∷ []) ≡ contents c.push.new.self = sym {b = blocks b ++ (k ∷ [])} c.push.ensures.contents in
     let absent : Absent (blocks b) k = subst (λ (ks : List Block). Absent ks k) c.view.ensures c.in_default.ensures in
-    let there = tested_below _ _ _ c.args.parents.now c.all_below.ensures c.if-not-all_below.false c.len-next.ensures in
-    let small = within k c.if-parents-gt-MAX_PARENTS.false c.if-load-gt-MAX_LOAD.false (λ i. (c.type_inv.load i).fits) in
+    let there = tested_below _ _ _ c.args.block.parents.now c.all_below.ensures c.if-not-all_below.false c.len-next.ensures in
+    let small = within k c.if-block-gt-MAX_PARENTS.false (leb-true _ _ (sym c.is_short.ensures.short ∙ c.if-not-is_short.false)) c.is_short.ensures.bytes in
     record {
       counted = c.push.ensures.counted;
       parents = c.push.ensures.parents;
@@ -29,14 +29,14 @@ invariant_of-self c =
 pub returns : goal.returns
 returns c =
     let b = c.args.self.now in
-    let k = block_of c.args.author c.args.round c.args.parents.now c.args.load.now in
+    let k = shown c.args.block in
     let absent : Absent (blocks b) k = subst (λ (ks : List Block). Absent ks k) c.view.ensures c.in_default.ensures in
-    let there = tested_below _ _ _ c.args.parents.now c.all_below.ensures c.if-not-all_below.false c.len-next.ensures in
+    let there = tested_below _ _ _ c.args.block.parents.now c.all_below.ensures c.if-not-all_below.false c.len-next.ensures in
     record {
       lent = c.push.ensures.lent;
       met =
           met_new _ (blocks b) k _ _
-          (record { few_parents = c.if-parents-gt-MAX_PARENTS.false; short_load = c.if-load-gt-MAX_LOAD.false; parents_there = there })
+          (record { few_parents = c.if-block-gt-MAX_PARENTS.false; short_load = leb-true _ _ (sym c.is_short.ensures.short ∙ c.if-not-is_short.false); parents_there = there })
           (record {
             absent = absent;
             room = c.has_room.ensures.0 c.if-not-has_room.false;

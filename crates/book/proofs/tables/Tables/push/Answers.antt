@@ -1,7 +1,7 @@
 use Rattle.std.proofs.Common.{◌+◌, ◌-◌, ◌<◌, ◌≤◌, length, ap, ◌∙◌, arith}
 use Rattle.std.proofs.lemmas.List.{length-set}
 use Rattle.book.specs.Memory.{contents, parents_of_all, bytes_of_all}
-use Rattle.book.specs.Meeting.{block_of}
+use Rattle.book.specs.Meeting.{shown}
 use Rattle.book.proofs.Filling.{
   count_is,
   parents_of_more,
@@ -20,14 +20,14 @@ bounds-self-self c = let n = count_is c.args.self.now c.requires.counted.0 in om
 pub returns : goal.returns
 returns c =
     let t = c.args.self.now in
-    let ps = c.args.parents.now in
-    let ls = c.args.load.now in
+    let ps = c.args.block.parents.now in
+    let ls = c.args.block.load.now in
     let p = t.parents_used in
     let l = t.loads_used in
     let ps' = c.copy_from_slice.new.self in
     let ls' = c.copy_from_slice-2.new.self in
-    let entry = new_entry c.args.author c.args.round p (length ps) l (length ls) in
-    let block = block_of c.args.author c.args.round ps ls in
+    let entry = new_entry c.args.block.author c.args.block.round p (length ps) l (length ls) in
+    let block = shown c.args.block in
     let n = count_is t c.requires.counted.0 in
     let lt : t.count < length t.entries.now = omega arith in
     let p-lent : p + length ps ≤ length t.parents.now = omega arith in
@@ -38,7 +38,7 @@ returns c =
     let ls-same =
     length-written l (l + length ls - l) t.loads.now ls' ls c.copy_from_slice-2.ensures.after (omega arith) l-lent in
     let grown =
-    block_pushed t.entries.now t.count c.args.author c.args.round t.parents.now t.loads.now p l
+    block_pushed t.entries.now t.count c.args.block.author c.args.block.round t.parents.now t.loads.now p l
     (p + length ps - p) (l + length ls - l) ps' ls' ps ls lt c.requires.placed (omega arith) (omega arith)
     c.copy_from_slice.ensures.after c.copy_from_slice-2.ensures.after in
     let all-parents = ap parents_of_all grown ∙ parents_of_more (contents t) block in
