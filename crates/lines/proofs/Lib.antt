@@ -1,5 +1,6 @@
 mod Digits
 mod Cuts
 mod Keeping
+mod Taking
 mod Decoding
 pub mod Pairs

@@ -1,22 +1,11 @@
 -- What is kept of the line that is being read. Assumes nothing.
-use Rattle.std.specs.Prelude.{◌≡◌, ℕ, false, List, length, take, vec_items, nat_lt}
-use Rattle.lines.specs.Words.{has}
+use Rattle.std.specs.Prelude.{◌≡◌, ℕ, ◌+◌, List, take, vec_items}
 use Rattle.lines.specs.declared.buffer.LineBuffer.{LineBuffer}
 
 -- a line is held up to this length
 abbrev pub longest : ℕ
 longest = 8192
 
--- of the line's bytes so far the first are kept, and whether there are more
+-- of the line's bytes so far the first are kept, one more than a line may have, so that a line that is too long is told from one that isn't
 pub record Keeps (buffer : LineBuffer) (line : List ℕ) : Type 0 where
-  pub front : vec_items buffer.bytes ≡ take longest line
-  pub more : buffer.too_long ≡ nat_lt longest (length line)
-
-abbrev pub line_end : ℕ
-line_end = 10
-
--- what is kept is of some line, and no line feed is in it
-pub record HoldsLine (buffer : LineBuffer) : Type 0 where
-  pub line : List ℕ
-  pub keeps : Keeps buffer line
-  pub clean : has line_end line ≡ false
+  pub front : vec_items buffer.bytes ≡ take (longest + 1) line

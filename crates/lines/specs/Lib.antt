@@ -4,3 +4,4 @@ pub mod Numbers
 pub mod Hex
 pub mod Buffers
 pub mod Chunks
+pub mod Reading

@@ -1,17 +1,31 @@
 // The line that is being read, held up to a limit.
-ghost use Rattle.std.specs.Prelude.{◌≡◌, ℕ, ◌<◌, ◌≤◌, List, [], ◌∷◌, ◌++◌, length, Some, None, OnOk, ◌==◌};
+ghost use Rattle.std.specs.Prelude.{◌≡◌, ℕ, ◌<◌, ◌≤◌, List, [], ◌∷◌, ◌++◌, length, Some, MatchResult, is_ok, ◌==◌, if◌then◌else◌, codes};
 ghost use Rattle.lines.specs.Buffers.{longest, Keeps};
 
 use std::alloc::{AllocError, Global};
+use std::{error, fmt};
 
 /// A longer line isn't held.
 pub const LONGEST: usize = 8192;
 
-/// The bytes of a line that have come so far, or that there were too many.
+/// Why a line isn't held.
+#[derive(Clone, Copy, Debug, PartialEq, Eq)]
+pub struct TooLong;
+
+impl fmt::Display for TooLong {
+    ghost output = { λ _. Some (codes "a line is longer than 8192 bytes") };
+
+    fn fmt<W: fmt::Write>(&self, f: &mut fmt::Formatter<W>) -> fmt::Result {
+        f.write_str("a line is longer than 8192 bytes")
+    }
+}
+
+impl error::Error for TooLong {}
+
+/// The bytes of a line that have come so far. One more than a line may have tells that it is too long, and the others are dropped.
 #[derive(Drop)]
 pub struct LineBuffer {
     bytes: Vec<u8>,
-    too_long: bool,
 }
 
 impl LineBuffer {
@@ -21,18 +35,15 @@ impl LineBuffer {
     {
         LineBuffer {
             bytes: Vec::new(heap),
-            too_long: false,
         }
     }
 
-    /// One more byte of the line.
+    /// One more byte of the line. Where there is no memory for it, nothing changes.
     pub fn push(&mut self, byte: u8) -> Result<(), AllocError>
-        ensures { OnOk result ((line : List ℕ) → Keeps self.old line → Keeps self.new (line ++ (byte ∷ []))) }
+        ensures { (line : List ℕ) → Keeps self.old line → Keeps self.new (if is_ok result then line ++ (byte ∷ []) else line) }
     {
-        if self.bytes.len() < LONGEST {
+        if self.bytes.len() <= LONGEST {
             self.bytes.push(byte)?;
-        } else {
-            self.too_long = true;
         }
         Ok(())
     }
@@ -45,15 +56,14 @@ impl LineBuffer {
     }
 
     /// The line, unless it is too long.
-    pub fn line(&self) -> Option<&[u8]>
+    pub fn line(&self) -> Result<&[u8], TooLong>
         ensures { (line : List ℕ) → Keeps self.now line →
-            elim result [ Some bytes ↦ (bytes.now ≡ line) × (length line ≤ longest) | None ↦ longest < length line ] }
+            MatchResult result (λ bytes. (bytes.now ≡ line) × (length line ≤ longest)) (λ _. longest < length line) }
     {
-        if self.too_long {
-            None
-        } else {
-            Some(self.bytes.as_slice())
+        if self.bytes.len() > LONGEST {
+            return Err(TooLong);
         }
+        Ok(self.bytes.as_slice())
     }
 
     /// The next line begins.
@@ -61,6 +71,5 @@ impl LineBuffer {
         ensures { Keeps self.new [] }
     {
         self.bytes.clear();
-        self.too_long = false;
     }
 }

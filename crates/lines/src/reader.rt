@@ -1,8 +1,14 @@
 // The lines of an input, one after the other.
-ghost use Rattle.std.specs.Prelude.{◌≡◌, ℕ, ◌<◌, ◌≤◌, List, length, Some, None, OnOk};
-ghost use Rattle.lines.specs.Buffers.{longest, Keeps, HoldsLine};
+ghost use Rattle.std.specs.Prelude.{◌≡◌, ℕ, List, [], Option, MatchResult, MatchBool};
+ghost use Rattle.std.specs.Borrow.{sem};
+ghost use Rattle.std.specs.Io.KnownBytes.{IsAtEnd};
+ghost use Rattle.std.specs.Io.BufRead.{Rests};
+ghost use Rattle.lines.specs.contracts.reader.LineReader.{the_row};
+ghost use Rattle.lines.specs.Buffers.{Keeps};
+ghost use Rattle.lines.specs.Chunks.{to_come};
+ghost use Rattle.lines.specs.Reading.{TakesLine, TakesPart, GivesLine};
 
-use crate::buffer::LineBuffer;
+use crate::buffer::{LineBuffer, TooLong};
 use crate::chunks::Chunks;
 use std::alloc::Global;
 use std::io;
@@ -20,7 +26,8 @@ pub struct LineReader<R> {
 impl<R: Read> LineReader<R> {
     /// Before the first line.
     pub fn new(heap: Global, input: R) -> LineReader<R>
-        ensures { HoldsLine result.line }
+        ensures input { to_come R.remaining result.input ≡ R.remaining input }
+        ensures line { Keeps result.line [] }
     {
         LineReader {
             input: Chunks::new(input),
@@ -28,9 +35,25 @@ impl<R: Read> LineReader<R> {
         }
     }
 
-    /// Reads the next line, and says whether there was one.
-    pub fn next(&mut self) -> io::Result<bool>
-        ensures { OnOk result (HoldsLine self.new.line) }
+    /// The next line; none at the end of the input. A line that is too long to be held is read to its end.
+    pub fn next_line(&mut self) -> io::Result<Option<Result<&[u8], TooLong>>>
+        ensures given { (rest : Option (List ℕ)) × GivesLine (to_come R.remaining self.old.input) rest result }
+        ensures* after_borrow { sem 𝓛 (Rests (the_row R.row) self.entry (λ new.
+            GivesLine (to_come R.remaining self.old.input) (to_come R.remaining new.input) result)) }
+    {
+        if !self.read()? {
+            return Ok(None);
+        }
+        Ok(Some(self.line.line()))
+    }
+
+    /// Reads the next line into the buffer, and says whether there was one.
+    fn read(&mut self) -> io::Result<bool>
+        ensures { MatchResult result
+            (λ there. MatchBool there
+            ((line : List ℕ) × Keeps self.new.line line × TakesLine (to_come R.remaining self.old.input) (to_come R.remaining self.new.input) line)
+            (IsAtEnd (to_come R.remaining self.old.input) × IsAtEnd (to_come R.remaining self.new.input)))
+            (λ _. TakesPart (to_come R.remaining self.old.input) (to_come R.remaining self.new.input)) }
     {
         self.line.clear();
         for _ in 0..u64::MAX {
@@ -42,14 +65,6 @@ impl<R: Read> LineReader<R> {
             }
             self.line.push(byte)?;
         }
-        Ok(false)
-    }
-
-    /// The line that was read last, unless it is too long to be held.
-    pub fn line(&self) -> Option<&[u8]>
-        ensures { (line : List ℕ) → Keeps self.now.line line →
-            elim result [ Some bytes ↦ (bytes.now ≡ line) × (length line ≤ longest) | None ↦ longest < length line ] }
-    {
-        self.line.line()
+        Err(io::Error::from(io::ErrorKind::FileTooLarge))
     }
 }

@@ -5,14 +5,12 @@ use Rattle.lines.proofs.buffer.LineBuffer.push.Goals as goal
 
 pub returns-in_ok-push : goal.returns-in_ok-push
 returns-in_ok-push c line keeps =
-    let self = c.args.self.now in
-    let room : length (vec_items self.bytes) < longest = omega (arith, c.len.ensures, self.bytes.ok.0) in
-    let is = one_more (vec_items self.bytes) line self.too_long keeps.front keeps.more c.args.byte room in
-    record { front = c.in_ok-push.ensures.items ∙ is.0; more = is.1 }
+    let kept = vec_items c.args.self.now.bytes in
+    let room : length kept ≤ longest = omega (arith, c.len.ensures, c.args.self.now.bytes.ok.0) in
+    record { front = c.in_ok-push.ensures.items ∙ one_more kept line keeps.front c.args.byte room }
 
-pub returns-else-len-lt-LONGEST : goal.returns-else-len-lt-LONGEST
-returns-else-len-lt-LONGEST c line keeps =
-    let self = c.args.self.now in
-    let full : longest ≤ length (vec_items self.bytes) = omega (arith, c.len.ensures, self.bytes.ok.0) in
-    let is = one_lost (vec_items self.bytes) line self.too_long keeps.front keeps.more c.args.byte full in
-    record { front = is.0; more = is.1 }
+pub returns-else-len-le-LONGEST : goal.returns-else-len-le-LONGEST
+returns-else-len-le-LONGEST c line keeps =
+    let kept = vec_items c.args.self.now.bytes in
+    let full : longest < length kept = omega (arith, c.len.ensures, c.args.self.now.bytes.ok.0) in
+    record { front = one_lost kept line keeps.front c.args.byte full }
