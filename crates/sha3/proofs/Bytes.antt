@@ -1,9 +1,10 @@
 -- Bytes added to the string of a state: several pieces one after the other, and eight bytes at once as a lane.
 -- The bytes are below 256, and the lane lies in the state.
 
-use Rattle.std.proofs.Common.{◌≡◌, ℕ, suc, ◌+◌, ◌*◌, ◌/◌, ◌%◌, ◌^◌, ◌<◌, ◌≤◌, List, [], ◌∷◌, ◌++◌, length, get_or, drop, set, sym, refl, ap, ◌∙◌, lt_of_lt_of_le, add-zero, add_assoc, add_comm, add-one, arith, lit<, length-set, drop_of_length-le, drop-cons, get_or-set_same, set-set, pow_mono}
+use Rattle.std.proofs.Common.{◌≡◌, ℕ, zero, suc, ◌+◌, ◌*◌, ◌/◌, ◌%◌, ◌^◌, ◌<◌, ◌≤◌, ◌⊎◌, List, [], ◌∷◌, ◌++◌, length, get_or, take, drop, set, sym, refl, ap, ⊎_elim, ◌∙◌, lt_of_lt_of_le, add-zero, add_assoc, add_comm, add-one, arith, lit<, length-set, drop_of_length-le, drop-cons, drop-drop, get_or-set_same, set-set, pow_mono}
 use lib.Seq.{set-get_or}
 use lib.Bits.{bit_xor, xor_assoc, xor_comm, xor_shifted, xor_zero_r}
+use Rattle.std.specs.Simd.{first_chunks}
 use Rattle.std.proofs.lemmas.Nat.{shl_below}
 use Rattle.sha3.specs.Sponge.{add_byte, add_bytes}
 
@@ -113,6 +114,18 @@ word_at xs j =
     + get_or xs (j + 4) 0 * 4294967296 + get_or xs (j + 5) 0 * 1099511627776 + get_or xs (j + 6) 0 * 281474976710656
     + get_or xs (j + 7) 0 * 72057594037927936
 
+-- The number that the chunk from byte j on makes.
+pub chunk_word : (xs : List ℕ) (j : ℕ) → j + 8 ≤ length xs → word_at (take 8 (drop j xs)) 0 ≡ word_at xs j
+chunk_word xs j h = ap (λ t. word_at (take 8 t) 0) (next_eight xs j h)
+
+-- The chunks of eight bytes, one by one.
+pub chunk_at : (n i : ℕ) (xs none : List ℕ) → i < n → get_or (first_chunks 8 n xs) i none ≡ take 8 (drop (8 * i) xs)
+chunk_at zero i xs none h = absurd (omega arith)
+chunk_at (suc n) zero xs none h = refl
+chunk_at (suc n) (suc i) xs none h =
+    let on : 8 + 8 * i ≡ 8 * suc i = omega arith in
+    chunk_at n i (drop 8 xs) none (omega arith) ∙ ap (take 8) (drop-drop (8 * i) 8 xs ∙ ap (λ k. drop k xs) on)
+
 -- A turn of a loop that adds whole lanes.
 pub lanes_more : (s : List ℕ) (q i : ℕ) (bytes : List ℕ) → 8 * i + 8 ≤ length bytes → q + i < length s → ((k : ℕ) → get_or bytes k 0 < 256)
     → add_bytes s (8 * (q + i)) (drop (8 * i) bytes)
@@ -134,18 +147,23 @@ pub none_left : (s : List ℕ) (at i : ℕ) (bytes : List ℕ) → length bytes 
 unfolding add_bytes
 none_left s at i bytes h = ap (add_bytes s at) (drop_of_length-le bytes h)
 
--- Three pieces, of which the middle one begins at lane q.
-pub three_pieces : (s : List ℕ) (at q m : ℕ) (bytes head rest lanes tail s1 s2 s3 : List ℕ)
-    → bytes ≡ head ++ rest → rest ≡ lanes ++ tail → at + length head ≡ 8 * q → at + length head + length lanes ≡ m
-    → s1 ≡ add_bytes s at head → s2 ≡ add_bytes s1 (8 * q) lanes → s3 ≡ add_bytes s2 m tail
+-- Where nothing is added, it doesn't matter at which place.
+pub same_place : (s : List ℕ) (i j : ℕ) (bytes : List ℕ) → (length bytes ≡ 0) ⊎ (i ≡ j) → add_bytes s i bytes ≡ add_bytes s j bytes
+unfolding add_bytes
+same_place s i j [] h = refl
+same_place s i j (b ∷ bs) h = ⊎_elim (λ none. absurd (omega arith)) (λ e. ap (λ k. add_bytes s k (b ∷ bs)) e) h
+
+-- Three pieces, of which the middle one is added from lane q on.
+pub three_pieces : (s : List ℕ) (at q : ℕ) (bytes head rest lanes tail s1 s2 s3 : List ℕ)
+    → bytes ≡ head ++ rest → rest ≡ lanes ++ tail → (length lanes ≡ 0) ⊎ (at + length head ≡ 8 * q)
+    → s1 ≡ add_bytes s at head → s2 ≡ add_bytes s1 (8 * q) lanes → s3 ≡ add_bytes s2 (at + length head + length lanes) tail
     → s3 ≡ add_bytes s at bytes
-three_pieces s at q m bytes head rest lanes tail s1 s2 s3 split split2 lane end e1 e2 e3 =
+three_pieces s at q bytes head rest lanes tail s1 s2 s3 split split2 lane e1 e2 e3 =
+    let end : ℕ = at + length head in
     sym
     (ap (add_bytes s at) (split ∙ ap (λ t. head ++ t) split2)
     ∙ add_bytes-++ s at head (lanes ++ tail)
-    ∙ ap (λ t. add_bytes t (at + length head) (lanes ++ tail)) (sym e1)
-    ∙ add_bytes-++ s1 (at + length head) lanes tail
-    ∙ ap (λ k. add_bytes (add_bytes s1 (at + length head) lanes) k tail) end
-    ∙ ap (λ k. add_bytes (add_bytes s1 k lanes) m tail) lane
-    ∙ ap (λ t. add_bytes t m tail) (sym e2)
+    ∙ ap (λ t. add_bytes t end (lanes ++ tail)) (sym e1)
+    ∙ add_bytes-++ s1 end lanes tail
+    ∙ ap (λ t. add_bytes t (end + length lanes) tail) (same_place s1 end (8 * q) lanes lane ∙ sym e2)
     ∙ sym e3)

@@ -1,13 +1,13 @@
 -- A sponge fed byte by byte: whole blocks at once, pieces one after the other, and the padding at the end.
 -- It gives the state that the standard's definition has after its last block.
 
-use Rattle.std.proofs.Common.{◌≡◌, ℕ, zero, suc, ◌+◌, ◌-◌, ◌*◌, ◌/◌, ◌%◌, ◌^◌, ◌<◌, ◌≤◌, cond, List, [], ◌∷◌, ◌++◌, length, get_or, take, drop, set, replicate, sym, refl, ap, ◌∙◌, ⊎_elim, add-zero, mod-eq_of_lt, suc-mul, add-mul, add_comm, eq-or-lt_of_le, one-mul, div-add-mod', zero-add, zero-mul, mul-div_cancel, add-one, arith, length-append, length-drop, take-append-drop, length-take-le, get_or-set_same, drop-drop, set-set, eq-eqb, ne_eqb}
+use Rattle.std.proofs.Common.{◌≡◌, ℕ, zero, suc, ◌+◌, ◌-◌, ◌*◌, ◌/◌, ◌%◌, ◌^◌, ◌<◌, ◌≤◌, true, false, cond, eqb, List, [], ◌∷◌, ◌++◌, length, get_or, take, drop, set, replicate, sym, refl, ap, ◌∙◌, ⊎_elim, add-zero, mod-eq_of_lt, suc-mul, add-mul, add_comm, eq-or-lt_of_le, one-mul, div-add-mod', zero-add, zero-mul, mul-div_cancel, add-one, arith, length-set, length-append, length-drop, take-append-drop, length-take-le, get_or-set_same, drop-drop, set-set, eq-eqb, ne_eqb}
 use native.Mathlib.Nat.{add-mod_left}
 use lib.ListN.{length-replicate}
 use lib.Seq.{set-get_or}
 use lib.Bits.{bit_xor, xor_assoc, xor_comm, xor_shifted, xor_zero_r}
 use Rattle.std.proofs.lemmas.Nat.{shl_below, pow-add}
-use Rattle.sha3.specs.Keccak.{keccak}
+use Rattle.sha3.specs.Keccak.{keccak, keccak_round, rounds}
 use Rattle.sha3.specs.Sponge.{add_byte, add_bytes, absorb, closing, padded, zeros}
 use Rattle.sha3.specs.Feeding.{step, feeding, Holds}
 use Rattle.sha3.proofs.Bytes.{add_bytes-++}
@@ -135,11 +135,30 @@ length-closing suffix (suc zero) = refl
 length-closing suffix (suc (suc q)) =
     ap suc (length-append (replicate q 0) (128 ∷ []) ∙ ap (λ n. n + 1) (length-replicate q 0) ∙ add-one q)
 
+-- A state has 25 lanes, whatever it was permuted from.
+pub length-keccak : (s : List ℕ) → length (keccak s) ≡ 25
+unfolding rounds keccak_round
+length-keccak s = refl
+
+length-step : (r : ℕ) (s : List ℕ) (i b : ℕ) → length s ≡ 25 → length (step r (s, i) b).0 ≡ 25
+unfolding step
+length-step r s i b e =
+    let t : List ℕ = add_byte s i b in
+    let same : length t ≡ 25 = length-set s (i / 8) _ ∙ e in
+    elim (eqb (i + 1) r) as (λ v. length (cond {A = List ℕ × ℕ} v (keccak t, 0) (t, i + 1)).0 ≡ 25)
+    [ true ↦ length-keccak t | false ↦ same ]
+
+length-feeding : (r : ℕ) (s : List ℕ) (i : ℕ) (bs : List ℕ) → length s ≡ 25 → length (feeding r (s, i) bs).0 ≡ 25
+unfolding feeding
+length-feeding r s i [] e = e
+length-feeding r s i (b ∷ bs) e = length-feeding r (step r (s, i) b).0 (step r (s, i) b).1 bs (length-step r s i b e)
+
 -- The state after the last block of what a sponge holds.
-pub finished : (r suffix : ℕ) (s : List ℕ) (i : ℕ) (fed : List ℕ) → Holds r s i fed → i < r → r ≤ 200 → suffix < 128 → length s ≡ 25
+pub finished : (r suffix : ℕ) (s : List ℕ) (i : ℕ) (fed : List ℕ) → Holds r s i fed → i < r → r ≤ 200 → suffix < 128
     → absorb r (length (padded r suffix fed) / r) (padded r suffix fed) zeros ≡ keccak (add_byte (add_byte s i suffix) (r - 1) 128)
 unfolding Holds padded
-finished r suffix s i fed holds l small h long =
+finished r suffix s i fed holds l small h =
+    let long : length s ≡ 25 = ap (λ f. length f.0) holds ∙ length-feeding r zeros 0 fed refl in
     let n : ℕ = length fed / r in
     let q : ℕ = r - length fed % r in
     let p : List ℕ = fed ++ closing suffix q in
@@ -158,22 +177,18 @@ finished r suffix s i fed holds l small h long =
     ∙ ap (λ f. feeding r f (closing suffix q)) (sym holds)
     ∙ closed r s i suffix q fills open-byte h small long)
 
--- A turn of the loop that absorbs: the n bytes that fill the block.
-pub block_more : (r : ℕ) (s : List ℕ) (i n done : ℕ) (bytes : List ℕ) → i + n ≡ r → 0 < n → done + n ≤ length bytes
-    → feeding r (s, i) (drop done bytes) ≡ feeding r (keccak (add_bytes s i (take n (drop done bytes))), 0) (drop (done + n) bytes)
-block_more r s i n done bytes e some room =
-    let left : length (drop done bytes) ≡ length bytes - done = length-drop done bytes in
-    let has : n ≤ length (drop done bytes) = omega arith in
-    let fills : i + length (take n (drop done bytes)) ≡ r = ap (λ k. i + k) (length-take-le n (drop done bytes) has) ∙ e in
-    let within : i < r = omega arith in
-    ap (feeding r (s, i)) (sym (take-append-drop n (drop done bytes)))
-    ∙ feeding-++ r (s, i) (take n (drop done bytes)) (drop n (drop done bytes))
-    ∙ ap (λ f. feeding r f (drop n (drop done bytes))) (whole r s i (take n (drop done bytes)) within fills)
-    ∙ ap (feeding r (keccak (add_bytes s i (take n (drop done bytes))), 0)) (drop-drop n done bytes)
+-- A turn of the loop that feeds: what stands before the rest.
+pub fed_block : (r : ℕ) (s t : List ℕ) (i j : ℕ) (all block rest : List ℕ) → all ≡ block ++ rest → (t, j) ≡ feeding r (s, i) block
+    → feeding r (s, i) all ≡ feeding r (t, j) rest
+fed_block r s t i j all block rest split e =
+    ap (feeding r (s, i)) split ∙ feeding-++ r (s, i) block rest ∙ ap (λ f. feeding r f rest) (sym e)
 
--- What is left in the end does not fill the block.
-pub block_last : (r : ℕ) (s : List ℕ) (i done : ℕ) (bytes : List ℕ) → done ≤ length bytes → i + (length bytes - done) < r
-    → feeding r (s, i) (drop done bytes) ≡ (add_bytes s i (drop done bytes), i + (length bytes - done))
-block_last r s i done bytes in-range room =
-    let left : length (drop done bytes) ≡ length bytes - done = length-drop done bytes in
-    part r s i (drop done bytes) (omega arith) ∙ ap (λ k. (add_bytes s i (drop done bytes), i + k)) left
+-- Bytes that fill the block leave the next one empty.
+pub filled : (r : ℕ) (s t : List ℕ) (i j : ℕ) (bs : List ℕ) → (t, j) ≡ feeding r (s, i) bs → i < r → i + length bs ≡ r → j ≡ 0
+filled r s t i j bs e l h = ap (λ f. f.1) (e ∙ whole r s i bs l h)
+
+-- Nothing is left to feed.
+pub fed_none : (r : ℕ) (f : List ℕ × ℕ) (rest : List ℕ) → length rest ≡ 0 → feeding r f rest ≡ f
+unfolding feeding
+fed_none r f [] h = refl
+fed_none r f (b ∷ bs) h = absurd (omega arith)

@@ -1,7 +1,7 @@
 -- The string of a state byte by byte, and the bytes that a sponge gives, block by block.
 -- Nothing is assumed of the state's lanes.
 
-use Rattle.std.proofs.Common.{◌≡◌, ℕ, zero, suc, ◌+◌, ◌-◌, ◌*◌, ◌/◌, ◌%◌, ◌^◌, ◌<◌, ◌≤◌, List, [], ◌∷◌, ◌++◌, length, get_or, take, set, sym, refl, ap, ◌∙◌, append_assoc, mod-lt, suc-mul, add-mul, one-mul, div-add-mod', zero-mul, div-one, add-one, arith, length-take-le, take-suc, take-take}
+use Rattle.std.proofs.Common.{◌≡◌, ℕ, zero, suc, ◌+◌, ◌-◌, ◌*◌, ◌/◌, ◌%◌, ◌^◌, ◌<◌, ◌≤◌, List, [], ◌∷◌, ◌++◌, length, get_or, get_or-take, take, drop, set, sym, refl, ap, ◌∙◌, append_assoc, mod-lt, suc-mul, add-mul, one-mul, div-add-mod', zero-mul, div-one, add-one, arith, length-take, length-take-le, drop-cons, drop_of_length-le, append-nil, length-set, take_all}
 use native.Mathlib.Nat.{zero-div, zero-mod}
 use lib.Seq.{length-paste, take-append-le, take-append-add}
 use borrow.Rule.Slice.PartMut.{put_mid}
@@ -38,75 +38,69 @@ unfolding bytes_of
 length-bytes_of [] = refl
 length-bytes_of (v ∷ vs) = let ih : length (bytes_of vs) ≡ 8 * length vs = length-bytes_of vs in omega arith
 
--- A turn of the loop that copies.
-pub copy_more : (b out : List ℕ) (i v : ℕ) → i < length out → i < length b → v ≡ get_or b i 0 → take i out ≡ take i b
-    → take (i + 1) (set out i v) ≡ take (i + 1) b
-copy_more b out i v l m e same =
-    take_more_set out i v l ∙ ap (λ x. take i out ++ x ∷ []) e ∙ ap (λ t. t ++ get_or b i 0 ∷ []) same
-    ∙ sym (ap (λ k. take k b) (add-one i) ∙ take-suc b i 0 m)
+-- What a loop that gives bytes keeps: those that it gave, and enough blocks for those that are left.
+abbrev pub Left : ℕ → List ℕ → ℕ → ℕ → List ℕ → List ℕ → Type 0
+Left r all i at out s =
+    (k : ℕ) × (all ≡ take i out ++ take (length out - i) (drop at (take r (bytes_of s)) ++ blocks r k (keccak s)))
+    × (length out - i ≤ (r - at) + k * r)
 
--- More than a block is wanted: the first block, and the rest from the next state.
-pub blocks_more : (r n k : ℕ) (s : List ℕ) → r ≤ n → r ≤ length (bytes_of s)
-    → take n (blocks r (suc k) s) ≡ take r (bytes_of s) ++ take (n - r) (blocks r k (keccak s))
-unfolding blocks
-blocks_more r n k s h long =
-    let front : List ℕ = take r (bytes_of s) in
-    let size : length front ≡ r = length-take-le r (bytes_of s) long in
-    let sum : n ≡ length front + (n - r) = omega arith in
-    ap (λ m. take m (front ++ blocks r k (keccak s))) sum ∙ take-append-add front (blocks r k (keccak s)) (n - r)
+all_given : (r : ℕ) (b : List ℕ) → drop r (take r b) ≡ []
+all_given r b = drop_of_length-le (take r b) (omega (arith, length-take r b))
 
--- At most a block is wanted.
-pub blocks_last : (r n k : ℕ) (s : List ℕ) → n ≤ r → n ≤ k * r → r ≤ length (bytes_of s) → take n (blocks r k s) ≡ take n (bytes_of s)
-unfolding blocks
-blocks_last r n zero s h enough long =
-    let none : n ≡ 0 = omega (arith, zero-mul r) in
-    ap (λ m. take m []) none ∙ sym (ap (λ m. take m (bytes_of s)) none)
-blocks_last r n (suc k) s h enough long =
-    let size : length (take r (bytes_of s)) ≡ r = length-take-le r (bytes_of s) long in
-    let fits : n ≤ length (take r (bytes_of s)) = omega arith in
-    take-append-le n (take r (bytes_of s)) (blocks r k (keccak s)) fits ∙ take-take n r (bytes_of s) h
-
--- What a loop that gives blocks keeps: what is done, and enough blocks for what is left.
-abbrev pub Left : ℕ → List ℕ → ℕ → List ℕ → List ℕ → Type 0
-Left r all done out s =
-    ((k : ℕ) × (all ≡ take done out ++ take (length out - done) (blocks r k s)) × (length out - done ≤ k * r)) × (done ≤ length out)
-
-pub left_all : (r : ℕ) (out s : List ℕ) → 0 < r → Left r (squeezed r (length out) s) 0 out s
+-- Nothing is given yet, and the state is not permuted.
+pub left_all : (r : ℕ) (out s : List ℕ) → 0 < r → Left r (squeezed r (length out) (keccak s)) 0 r out s
 unfolding squeezed
 left_all r out s some =
     let n : ℕ = length out in
+    let k : ℕ = n / r + 1 in
     let whole : n - 0 ≡ n = omega arith in
-    let enough : n - 0 ≤ (n / r + 1) * r = omega (arith, add-mul (n / r) 1 r, one-mul r, div-add-mod' n r, mod-lt n some) in
-    ((n / r + 1, ap (λ m. take m (blocks r (n / r + 1) s)) (sym whole), enough), omega arith)
-
--- A turn: the part of the output that the block goes to holds it then.
-pub left_more : (r done : ℕ) (all out out' s : List ℕ) → 0 < r → r ≤ length (bytes_of s) → r < length out - done
-    → take (done + r) out' ≡ take done out ++ take r (bytes_of s) → length out' ≡ length out
-    → Left r all done out s → Left r all (done + r) out' (keccak s)
-left_more r done all out out' s some long want front same ((zero, e, enough), within) = absurd (omega (arith, zero-mul r))
-left_more r done all out out' s some long want front same ((suc k, e, enough), within) =
-    let n : ℕ = length out - done in
-    let rest : length out - done - r ≡ length out' - (done + r) = omega arith in
-    let fewer : length out' - (done + r) ≤ k * r = omega (arith, suc-mul k r) in (
-      (
-        k,
-        e
-            ∙ ap (λ t. take done out ++ t) (blocks_more r n k s (omega arith) long)
-            ∙ sym (append_assoc (take done out) (take r (bytes_of s)) (take (n - r) (blocks r k (keccak s))))
-            ∙ ap (λ t. t ++ take (n - r) (blocks r k (keccak s))) (sym front)
-            ∙ ap (λ m. take (done + r) out' ++ take m (blocks r k (keccak s))) rest,
-        fewer,
-      ),
-      omega arith,
+    let enough : n - 0 ≤ (r - r) + k * r = omega (arith, add-mul (n / r) 1 r, one-mul r, div-add-mod' n r, mod-lt n some) in (
+      k,
+      sym (ap (λ t. take (n - 0) (t ++ blocks r k (keccak s))) (all_given r (bytes_of s)) ∙ ap (λ m. take m (blocks r k (keccak s))) whole),
+      enough,
     )
 
--- The end: what is left fits a block.
-pub left-none : (r done : ℕ) (all out s : List ℕ) → r ≤ length (bytes_of s) → length out - done ≤ r → Left r all done out s
-    → all ≡ take done out ++ take (length out - done) (bytes_of s)
-left-none r done all out s long small ((k, e, enough), within) =
-    e ∙ ap (λ t. take done out ++ t) (blocks_last r (length out - done) k s small enough long)
+-- All bytes of a block are given, and more are wanted: the next block.
+pub left_block : (r i : ℕ) (all out s : List ℕ) → i < length out → Left r all i r out s → Left r all i 0 out (keccak s)
+unfolding blocks
+left_block r i all out s h (zero, e, enough) = absurd (omega (arith, zero-mul r))
+left_block r i all out s h (suc k, e, enough) =
+    let fewer : length out - i ≤ (r - 0) + k * r = omega (arith, suc-mul k r) in (
+      k,
+      e ∙ ap (λ t. take i out ++ take (length out - i) (t ++ blocks r (suc k) (keccak s))) (all_given r (bytes_of s)),
+      fewer,
+    )
 
--- A list keeps its length where a part is written over.
-pub length-written : (a k : ℕ) (xs ys : List ℕ) → a + k ≤ length xs → length ys ≡ k → length (put_mid a k xs ys) ≡ length xs
-length-written a k xs ys h e =
-    ap length (put_mid-paste a k xs ys ys k refl refl (sym e)) ∙ length-paste xs a ys k h (omega arith)
+-- One byte more.
+pub left_byte : (r i at v : ℕ) (all out s : List ℕ) → i < length out → at < r → r ≤ length (bytes_of s) → v ≡ get_or (bytes_of s) at 0
+    → Left r all i at out s → Left r all (i + 1) (at + 1) (set out i v) s
+left_byte r i at v all out s h inside long is (k, e, enough) =
+    let n : ℕ = length out in
+    let b : List ℕ = take r (bytes_of s) in
+    let more : List ℕ = blocks r k (keccak s) in
+    let rest : List ℕ = drop (at + 1) b ++ more in
+    let size : length b ≡ r = length-take-le r (bytes_of s) long in
+    let same : length (set out i v) ≡ n = length-set out i v in
+    let cut : drop at b ≡ v ∷ drop (at + 1) b
+    = drop-cons b at 0 (omega arith)
+    ∙ ap (λ x. x ∷ drop (suc at) b) (get_or-take r (bytes_of s) at 0 inside ∙ sym is)
+    ∙ ap (λ m. v ∷ drop m b) (sym (add-one at)) in
+    let count : n - i ≡ suc (n - (i + 1)) = omega arith in
+    let fewer : length (set out i v) - (i + 1) ≤ (r - (at + 1)) + k * r = omega arith in (
+      k,
+      e
+          ∙ ap (λ t. take i out ++ take (n - i) (t ++ more)) cut
+          ∙ ap (λ m. take i out ++ take m (v ∷ rest)) count
+          ∙ sym (append_assoc (take i out) (v ∷ []) (take (n - (i + 1)) rest))
+          ∙ ap (λ t. t ++ take (n - (i + 1)) rest) (sym (take_more_set out i v h))
+          ∙ ap (λ m. take (i + 1) (set out i v) ++ take (m - (i + 1)) rest) (sym same),
+      fewer,
+    )
+
+-- The end: no more bytes are wanted.
+pub left-none : (r i at : ℕ) (all out s : List ℕ) → length out ≤ i → Left r all i at out s → out ≡ all
+left-none r i at all out s h (k, e, enough) =
+    let none : length out - i ≡ 0 = omega arith in
+    sym
+    (e ∙ ap (λ m. take i out ++ take m (drop at (take r (bytes_of s)) ++ blocks r k (keccak s))) none
+    ∙ append-nil (take i out) ∙ take_all i out h)

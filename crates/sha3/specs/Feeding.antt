@@ -1,7 +1,7 @@
 -- A sponge that takes a message byte by byte: the state, and how many bytes of the current block it has taken.
 -- `Holds` is what the hashers say of themselves: the bytes that they were fed.
 
-use Rattle.std.specs.Prelude.{◌≡◌, ℕ, ◌+◌, cond, List, [], ◌∷◌, ◌++◌, ◌==◌}
+use Rattle.std.specs.Prelude.{◌≡◌, ℕ, ◌+◌, ◌-◌, cond, List, [], ◌∷◌, ◌++◌, ◌==◌}
 use Rattle.sha3.specs.Keccak.{keccak}
 use Rattle.sha3.specs.Sponge.{add_byte, sponge, zeros}
 
@@ -12,6 +12,10 @@ step r f b = cond (f.1 + 1 == r) (keccak (add_byte f.0 f.1 b), 0) (add_byte f.0 
 unfoldable pub feeding : ℕ → List ℕ × ℕ → List ℕ → List ℕ × ℕ
 feeding r f [] = f
 feeding r f (b ∷ bs) = feeding r (step r f b) bs
+
+-- The state once the last block is full: the suffix after the message's last byte, and the last bit of the padding at the block's end.
+abbrev pub closed : ℕ → ℕ → List ℕ × ℕ → List ℕ
+closed r suffix f = add_byte (add_byte f.0 f.1 suffix) (r - 1) 128
 
 -- A sponge of rate r, with this state and this many bytes of a block, was fed these bytes and no others.
 unfoldable pub Holds : ℕ → List ℕ → ℕ → List ℕ → Type 0

@@ -65,6 +65,13 @@ sha3_suffix = 0x06
 abbrev pub shake_suffix : ℕ
 shake_suffix = 0x1f
 
+-- SHA3 with digests of n bytes: twice as many bytes of the state are the capacity, and the others are the rate.
+abbrev pub sha3_rate : ℕ → ℕ
+sha3_rate n = 200 - 2 * n
+
+abbrev pub sha3 : ℕ → List ℕ → List ℕ
+sha3 n m = sponge (sha3_rate n) sha3_suffix n m
+
 abbrev pub sha3_256 : List ℕ → List ℕ
 sha3_256 m = sponge 136 sha3_suffix 32 m
 

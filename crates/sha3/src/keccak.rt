@@ -290,8 +290,8 @@ pub fn permute(state: &mut State)
     ensures { state.new ≡ keccak state.old }
 {
     let mut a = *state;
-    for i in 0..ROUNDS {
-        let next = round(a, ROUND_CONSTANTS[i]);
+    for constant in ROUND_CONSTANTS {
+        let next = round(a, constant);
         a = next;
     }
     *state = a;

@@ -4,14 +4,12 @@
 //! A hasher holds the bytes that it was fed: none when it is new, more with each `update`; `finish` gives the digest of all of them.
 #![tactic(auto)]
 
-mod digest256;
-mod digest512;
+mod digest;
 mod keccak;
 mod shake;
 mod sponge;
 pub mod theorems;
 
-pub use digest256::{Hasher256, LENGTH as LENGTH_256, sha3_256};
-pub use digest512::{Hasher512, LENGTH as LENGTH_512, sha3_512};
+pub use digest::{Hasher, Hasher256, Hasher512, LENGTH_256, LENGTH_512, sha3_256, sha3_512};
 pub use shake::{shake128, shake256};
 pub use sponge::Sponge;

@@ -1,13 +1,14 @@
 //! The sponge under every hash of the crate: it takes a message in pieces, and gives bytes.
 
-ghost use Rattle.std.specs.Prelude.{◌≡◌, ◌+◌, ◌-◌, ◌*◌, ◌%◌, ◌<◌, ◌≤◌, [], length, take, slice_index};
+ghost use Rattle.std.specs.Prelude.{◌≡◌, ◌+◌, ◌*◌, ◌%◌, ◌<◌, ◌≤◌, [], length, slice_index};
+ghost use Rattle.sha3.specs.Keccak.{keccak};
 ghost use Rattle.sha3.specs.Sponge.{add_byte, add_bytes, bytes_of, shake_suffix, squeezed};
-ghost use Rattle.sha3.specs.Feeding.{feeding, Holds, Grown, Digest};
+ghost use Rattle.sha3.specs.Feeding.{feeding, closed, Holds, Grown, Digest};
 
 use crate::keccak::{LANES, State, permute};
 
 /// The bytes of a lane.
-const LANE: usize = 8;
+pub(crate) const LANE: usize = 8;
 
 /// What follows each message of SHA3: the bits 01, and the first 1 of the padding.
 pub(crate) const SHA3_SUFFIX: u8 = 0x06;
@@ -31,8 +32,8 @@ fn add_singly(state: &mut State, at: usize, bytes: &[u8])
     requires { at + length bytes.now ≤ 200 }
     ensures { state.new ≡ add_bytes state.old at bytes.now }
 {
-    for i in 0..bytes.len() {
-        add_byte(state, at + i, bytes[i]);
+    for (i, byte) in bytes.iter().enumerate() {
+        add_byte(state, at + i, *byte);
     }
 }
 
@@ -41,19 +42,9 @@ fn add_lanes(state: &mut State, lane: usize, bytes: &[u8])
     requires { (8 * lane + length bytes.now ≤ 200) × (length bytes.now % 8 ≡ 0) }
     ensures { state.new ≡ add_bytes state.old (8 * lane) bytes.now }
 {
-    for i in 0..bytes.len() / LANE {
-        let at = LANE * i;
-        let word = u64::from_le_bytes([
-            bytes[at],
-            bytes[at + 1],
-            bytes[at + 2],
-            bytes[at + 3],
-            bytes[at + 4],
-            bytes[at + 5],
-            bytes[at + 6],
-            bytes[at + 7],
-        ]);
-        state[lane + i] ^= word;
+    let (words, _) = bytes.as_chunks::<LANE>();
+    for (i, word) in words.iter().enumerate() {
+        state[lane + i] ^= u64::from_le_bytes(*word);
     }
 }
 
@@ -63,35 +54,12 @@ fn add_bytes(state: &mut State, at: usize, bytes: &[u8])
     ensures { state.new ≡ add_bytes state.old at bytes.now }
 {
     let to_lane = (LANE - at % LANE) % LANE;
-    if bytes.len() <= to_lane {
-        add_singly(state, at, bytes);
-    } else {
-        let (head, rest) = bytes.split_at(to_lane);
-        let (lanes, tail) = rest.split_at(rest.len() / LANE * LANE);
-        let lane = (at + to_lane) / LANE;
-        add_singly(state, at, head);
-        add_lanes(state, lane, lanes);
-        add_singly(state, at + to_lane + lanes.len(), tail);
-    }
-}
-
-/// Feeds bytes to a sponge that has taken `at` bytes of its current block, and says how many it has taken then.
-fn absorb(state: &mut State, rate: usize, at: usize, bytes: &[u8]) -> usize
-    requires { (at < rate) × (rate ≤ 200) }
-    ensures fed { (state.new, result) ≡ feeding rate (state.old, at) bytes.now }
-    ensures within { result < rate }
-{
-    let mut place = at;
-    let mut done = 0;
-    while rate - place <= bytes.len() - done {
-        let end = done + (rate - place);
-        add_bytes(state, place, &bytes[done..end]);
-        permute(state);
-        place = 0;
-        done = end;
-    }
-    add_bytes(state, place, &bytes[done..]);
-    place + (bytes.len() - done)
+    let (head, rest) = bytes.split_at(to_lane.min(bytes.len()));
+    let (lanes, tail) = rest.split_at(rest.len() - rest.len() % LANE);
+    let end = at + head.len();
+    add_singly(state, at, head);
+    add_lanes(state, end / LANE, lanes);
+    add_singly(state, end + lanes.len(), tail);
 }
 
 /// Byte `at` of the state's string.
@@ -102,31 +70,6 @@ fn byte_of(state: &State, at: usize) -> u8
     ((state[at / LANE] >> (8 * (at % LANE))) & 0xff) as u8
 }
 
-/// Fills `out` with the first bytes of the state's string.
-fn copy_out(state: &State, out: &mut [u8])
-    requires { length out.old ≤ 200 }
-    ensures { out.new ≡ take (length out.old) (bytes_of state.now) }
-{
-    for i in 0..out.len() {
-        out[i] = byte_of(state, i);
-    }
-}
-
-/// Fills `out` with the first bytes that a state gives, which was permuted after its last block.
-fn squeeze(state: &mut State, rate: usize, out: &mut [u8])
-    requires { (0 < rate) × (rate ≤ 200) }
-    ensures { out.new ≡ squeezed rate (length out.old) state.old }
-{
-    let mut done = 0;
-    while rate < out.len() - done {
-        let end = done + rate;
-        copy_out(state, &mut out[done..end]);
-        permute(state);
-        done = end;
-    }
-    copy_out(state, &mut out[done..]);
-}
-
 /// A sponge that was fed some bytes: the state, with the bytes of the current block added, and how many these are.
 #[derive(Drop)]
 pub struct Sponge {
@@ -134,13 +77,17 @@ pub struct Sponge {
     at: usize,
     rate: usize,
     suffix: u8,
-    ghost ok: { (at < rate) × (rate ≤ 200) × (suffix < 128) },
+    ghost has_room: { at < rate },
+    ghost block_fits: { rate ≤ 200 },
+    ghost suffix_fits: { suffix < 128 },
 }
 
 impl Sponge {
     /// A sponge that was fed nothing. The rate is the length of a block in bytes, and the suffix what follows each message.
     pub(crate) fn new(rate: usize, suffix: u8) -> Sponge
-        requires { (0 < rate) × ((rate ≤ 200) × (suffix < 128)) }
+        requires some { 0 < rate }
+        requires block_fits { rate ≤ 200 }
+        requires suffix_fits { suffix < 128 }
         ensures { (result.rate ≡ rate) × (result.suffix ≡ suffix) × Holds rate result.state result.at [] }
     {
         Sponge {
@@ -165,24 +112,65 @@ impl Sponge {
         Sponge::new(136, SHAKE_SUFFIX)
     }
 
+    /// Feeds bytes for which the current block has room, and permutes the state once the block is full.
+    fn fill(&mut self, bytes: &[u8])
+        requires { self.old.at + length bytes.now ≤ self.old.rate }
+        ensures kept { (self.new.rate ≡ self.old.rate) × (self.new.suffix ≡ self.old.suffix) }
+        ensures fed { (self.new.state, self.new.at) ≡ feeding self.old.rate (self.old.state, self.old.at) bytes.now }
+    {
+        add_bytes(&mut self.state, self.at, bytes);
+        let at = self.at + bytes.len();
+        if at == self.rate {
+            permute(&mut self.state);
+            self.at = 0;
+        } else {
+            self.at = at;
+        }
+    }
+
     /// Feeds more bytes.
     pub fn update(&mut self, bytes: &[u8])
         ensures kept { (self.new.rate ≡ self.old.rate) × (self.new.suffix ≡ self.old.suffix) }
         ensures fed { Grown self.old.rate self.old.state self.old.at
             self.new.state self.new.at bytes.now }
     {
-        let at = absorb(&mut self.state, self.rate, self.at, bytes);
-        self.at = at;
+        let room = self.rate - self.at;
+        let (head, rest) = bytes.split_at(room.min(bytes.len()));
+        self.fill(head);
+        for block in rest.chunks(self.rate) {
+            self.fill(block);
+        }
+    }
+
+    /// Ends the message: its suffix and the padding fill the block.
+    fn close(&mut self)
+        ensures kept { self.new.rate ≡ self.old.rate }
+        ensures closed { self.new.state ≡ closed self.old.rate self.old.suffix (self.old.state, self.old.at) }
+    {
+        add_byte(&mut self.state, self.at, self.suffix);
+        add_byte(&mut self.state, self.rate - 1, LAST_BIT);
+    }
+
+    /// Fills `out` with the bytes that the state gives once it is permuted.
+    fn squeeze(&mut self, out: &mut [u8])
+        ensures { out.new ≡ squeezed self.old.rate (length out.old) (keccak self.old.state) }
+    {
+        let mut at = self.rate;
+        for byte in out.iter_mut() {
+            if at == self.rate {
+                permute(&mut self.state);
+                at = 0;
+            }
+            *byte = byte_of(&self.state, at);
+            at += 1;
+        }
     }
 
     /// Ends the message, and fills `out` with the first bytes that the sponge gives for it.
-    pub fn finish(self, out: &mut [u8])
+    pub fn finish(mut self, out: &mut [u8])
         ensures { Digest self.rate self.suffix self.state self.at (length out.old) out.new }
     {
-        let mut state = self.state;
-        add_byte(&mut state, self.at, self.suffix);
-        add_byte(&mut state, self.rate - 1, LAST_BIT);
-        permute(&mut state);
-        squeeze(&mut state, self.rate, out);
+        self.close();
+        self.squeeze(out);
     }
 }

@@ -2,11 +2,11 @@ use Rattle.std.proofs.Common.{get_or, refl, ap, ◌∙◌, add-one}
 use Rattle.sha3.specs.Keccak.{keccak_round, round_constants, rounds}
 use Rattle.sha3.proofs.keccak.permute.Goals as goal
 
-pub loop-i-init : goal.loop-i-init
+pub loop-constant-init : goal.loop-constant-init
 unfolding rounds
-loop-i-init c = refl
+loop-constant-init c = refl
 
-pub loop-i-preserved : goal.loop-i-preserved
+pub loop-constant-preserved : goal.loop-constant-preserved
 unfolding rounds
-loop-i-preserved c =
-    rw add-one (c.round-next.ensures ∙ ap (λ s. keccak_round s (get_or round_constants c.loop-i.i 0)) c.loop-i.invariant)
+loop-constant-preserved c =
+    rw add-one (c.round-next.ensures ∙ ap (λ s. keccak_round s (get_or round_constants c.loop-constant.constant-index 0)) c.loop-constant.invariant)

@@ -1,20 +1,22 @@
-use Rattle.std.proofs.Common.{◌≡◌, ◌+◌, ◌-◌, ◌*◌, ◌/◌, ◌%◌, length, arith}
+use Rattle.std.proofs.Common.{◌≡◌, ◌+◌, ◌-◌, ◌*◌, ◌/◌, ◌%◌, ◌⊎◌, length, inl, inr, ⊎_elim, arith}
+use Rattle.std.proofs.lemmas.Bool.{cases_lt}
 use Rattle.sha3.proofs.Bytes.{three_pieces}
 use Rattle.sha3.proofs.sponge.add_bytes.Goals as goal
 
 -- What stands before the first whole lane, the lanes, and what stands after them.
-pub returns-else-bytes-to_lane : goal.returns-else-bytes-to_lane
-returns-else-bytes-to_lane c =
+pub returns : goal.returns
+returns c =
     let at = c.args.at in
+    let bytes = c.args.bytes.now in
     let gap = (8 - at % 8) % 8 in
     let head = c.split_at.result.0.now in
-    let rest = c.split_at.result.1.now in
-    let lanes = c.split_at-else-bytes-to_lane.result.0.now in
-    let tail = c.split_at-else-bytes-to_lane.result.1.now in
-    let head-length : length head ≡ gap = c.split_at.ensures.front_len in
-    let lane : at + length head ≡ 8 * ((at + gap) / 8) = omega arith in
-    let after : at + length head + length lanes ≡ at + gap + length lanes = omega arith in
-    three_pieces c.args.state.now at ((at + gap) / 8) (at + gap + length lanes) c.args.bytes.now head rest lanes tail
-    c.add_singly-else-bytes-to_lane.new.state c.add_lanes.new.state c.add_singly-else-bytes-to_lane-2.new.state
-    c.split_at.ensures.by_index.0 c.split_at-else-bytes-to_lane.ensures.by_index.0 lane after
-    c.add_singly-else-bytes-to_lane.ensures c.add_lanes.ensures c.add_singly-else-bytes-to_lane-2.ensures
+    let lanes = c.split_at-2.result.0.now in
+    let end = at + length head in
+    let lane : (length lanes ≡ 0) ⊎ (end ≡ 8 * (end / 8))
+    = ⊎_elim
+    (λ more. inr (omega (arith, c.min.ensures, c.split_at.ensures.front_len)))
+    (λ few. inl (omega (arith, c.min.ensures, c.split_at.ensures.back_len, c.split_at-2.ensures.front_len)))
+    (cases_lt gap (length bytes)) in
+    three_pieces c.args.state.now at (end / 8) bytes head c.split_at.result.1.now lanes c.split_at-2.result.1.now
+    c.add_singly.new.state c.add_lanes.new.state c.add_singly-2.new.state
+    c.split_at.ensures.by_index.0 c.split_at-2.ensures.by_index.0 lane c.add_singly.ensures c.add_lanes.ensures c.add_singly-2.ensures

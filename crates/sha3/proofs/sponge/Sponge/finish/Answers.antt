@@ -1,6 +1,7 @@
-use Rattle.std.proofs.Common.{◌≡◌, ◌-◌, ◌/◌, length, sym, ap, ◌∙◌, length-set}
+use Rattle.std.proofs.Common.{length, sym, ap, ◌∙◌}
 use Rattle.sha3.specs.Keccak.{keccak}
-use Rattle.sha3.specs.Sponge.{add_byte, squeezed, sponge}
+use Rattle.sha3.specs.Sponge.{squeezed, sponge}
+use Rattle.sha3.specs.Feeding.{closed}
 use Rattle.sha3.proofs.Feeding.{finished}
 use Rattle.sha3.proofs.sponge.Sponge.finish.Goals as goal
 
@@ -8,10 +9,8 @@ pub returns : goal.returns
 unfolding sponge
 returns c = λ fed h.
     let self = c.args.self in
-    let s = self.state in
-    let long : length s ≡ 25 = sym (length-set s (self.at / 8) _) ∙ ap length (sym c.add_byte.ensures) ∙ c.add_byte.array_long in
+    let n = length c.args.out.now in
     c.squeeze.ensures
-    ∙ ap (squeezed self.rate (length c.args.out.now))
-    (c.permute.ensures
-    ∙ ap keccak (c.add_byte-2.ensures ∙ ap (λ t. add_byte t (self.rate - 1) 128) c.add_byte.ensures)
-    ∙ sym (finished self.rate self.suffix s self.at fed h self.ok.0 self.ok.1 self.ok.2 long))
+    ∙ ap (λ r. squeezed r n (keccak c.close.new.self.state)) c.close.ensures.kept
+    ∙ ap (λ s. squeezed self.rate n (keccak s)) c.close.ensures.closed
+    ∙ sym (ap (squeezed self.rate n) (finished self.rate self.suffix self.state self.at fed h self.has_room self.block_fits self.suffix_fits))
