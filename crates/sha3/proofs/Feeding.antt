@@ -1,7 +1,7 @@
 -- A sponge fed byte by byte: whole blocks at once, pieces one after the other, and the padding at the end.
 -- It gives the state that the standard's definition has after its last block.
 
-use Rattle.std.proofs.Common.{◌≡◌, ℕ, zero, suc, ◌+◌, ◌-◌, ◌*◌, ◌/◌, ◌%◌, ◌^◌, ◌<◌, ◌≤◌, true, false, cond, eqb, List, [], ◌∷◌, ◌++◌, length, get_or, take, drop, set, replicate, sym, refl, ap, ◌∙◌, ⊎_elim, add-zero, mod-eq_of_lt, suc-mul, add-mul, add_comm, eq-or-lt_of_le, one-mul, div-add-mod', zero-add, zero-mul, mul-div_cancel, add-one, arith, length-set, length-append, length-drop, take-append-drop, length-take-le, get_or-set_same, drop-drop, set-set, eq-eqb, ne_eqb}
+use Rattle.std.proofs.Common.{◌≡◌, ℕ, zero, suc, ◌+◌, ◌-◌, ◌*◌, ◌/◌, ◌%◌, ◌^◌, ◌<◌, ◌≤◌, true, false, cond, eqb, List, [], ◌∷◌, ◌++◌, length, get_or, take, drop, set, replicate, sym, refl, ap, ◌∙◌, ⊎_elim, add-zero, mod-eq_of_lt, suc-mul, add-mul, add_comm, eq-or-lt_of_le, one-mul, div-add-mod', zero-add, zero-mul, mul-div_cancel, add-one, arith, length-set, length-append, length-drop, take-append-drop, length-take-le, get_or-set_same, set-set, eq-eqb, ne_eqb}
 use native.Mathlib.Nat.{add-mod_left}
 use lib.ListN.{length-replicate}
 use lib.Seq.{set-get_or}

@@ -1,9 +1,8 @@
 -- Pieces fed one after the other lead to the digest of the whole: no state but one of 25 lanes comes up on the way.
 
-use Rattle.std.proofs.Common.{◌≡◌, ℕ, zero, suc, ◌+◌, ◌/◌, ◌%◌, ◌<◌, true, false, cond, eqb, List, [], ◌∷◌, length, sym, refl, ap, ◌∙◌, mod-lt, arith, length-set}
-use Rattle.sha3.specs.Keccak.{keccak, keccak_round, rounds}
-use Rattle.sha3.specs.Sponge.{add_byte, squeezed, sponge, zeros}
-use Rattle.sha3.specs.Feeding.{step, feeding, Holds}
+use Rattle.std.proofs.Common.{◌≡◌, ℕ, ◌+◌, ◌%◌, ◌<◌, List, [], ◌∷◌, length, sym, refl, ap, ◌∙◌, mod-lt, arith}
+use Rattle.sha3.specs.Sponge.{squeezed, sponge, zeros}
+use Rattle.sha3.specs.Feeding.{feeding, Holds}
 use Rattle.sha3.specs.Pieces.{joined, feedings, ended, AnyPieces}
 use Rattle.sha3.proofs.Feeding.{feeding-++, place, finished}
 

@@ -3,10 +3,7 @@
 
 use Rattle.std.proofs.Common.{◌≡◌, ℕ, zero, suc, ◌+◌, ◌-◌, ◌*◌, ◌/◌, ◌%◌, ◌^◌, ◌<◌, ◌≤◌, List, [], ◌∷◌, ◌++◌, length, get_or, get_or-take, take, drop, set, sym, refl, ap, ◌∙◌, append_assoc, mod-lt, suc-mul, add-mul, one-mul, div-add-mod', zero-mul, div-one, add-one, arith, length-take, length-take-le, drop-cons, drop_of_length-le, append-nil, length-set, take_all}
 use native.Mathlib.Nat.{zero-div, zero-mod}
-use lib.Seq.{length-paste, take-append-le, take-append-add}
-use borrow.Rule.Slice.PartMut.{put_mid}
 use Rattle.std.proofs.lemmas.List.{take_more_set}
-use Rattle.std.proofs.lemmas.Slice.{put_mid-paste}
 use Rattle.sha3.specs.Keccak.{keccak}
 use Rattle.sha3.specs.Sponge.{bytes_of, blocks, squeezed}
 

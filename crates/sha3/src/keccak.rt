@@ -1,6 +1,7 @@
 //! Keccak-f[1600], the permutation under SHA3 and SHAKE, on 25 lanes of 64 bits.
 //!
 //! Each step mapping is a function of its own, so that each is proved by itself; compiled, all are one loop.
+//! They name all 25 lanes, so that these stay in registers: with loops over the lanes a digest takes six times as long.
 
 ghost use Rattle.std.specs.Prelude.{◌≡◌};
 ghost use Rattle.sha3.specs.Keccak.{theta as theta_of, rho as rho_of, pi as pi_of, chi as chi_of, iota as iota_of, keccak_round, keccak};
@@ -291,6 +292,7 @@ pub fn permute(state: &mut State)
 {
     let mut a = *state;
     for constant in ROUND_CONSTANTS {
+        // A variable of its own: laid over `a` at once, the result of a call gets no proof where it is an array.
         let next = round(a, constant);
         a = next;
     }

@@ -39,7 +39,8 @@ fn add_singly(state: &mut State, at: usize, bytes: &[u8])
 
 /// Adds whole lanes to the state's string, from lane `lane` on: eight bytes at once.
 fn add_lanes(state: &mut State, lane: usize, bytes: &[u8])
-    requires { (8 * lane + length bytes.now ≤ 200) × (length bytes.now % 8 ≡ 0) }
+    requires within { 8 * lane + length bytes.now ≤ 200 }
+    requires whole { length bytes.now % 8 ≡ 0 }
     ensures { state.new ≡ add_bytes state.old (8 * lane) bytes.now }
 {
     let (words, _) = bytes.as_chunks::<LANE>();

@@ -17,7 +17,7 @@ loop-i-preserved c =
     let long : length s ≡ 25 = c.loop-i.invariant.1 in
     let within : i < length bytes / 8 = omega (arith, c.as_chunks.ensures.front_len, c.loop-i-test.true) in
     let room : 8 * i + 8 ≤ length bytes = omega arith in
-    let inside : q + i < length s = omega (arith, c.requires.0) in
+    let inside : q + i < length s = omega (arith, c.requires.within) in
     let chunk : get_or c.as_chunks.result.0.now i [] ≡ take 8 (drop (8 * i) bytes)
     = ap (λ ws. get_or ws i []) c.as_chunks.ensures.front ∙ chunk_at (length bytes / 8) i bytes [] within in
     let word : c.from_le_bytes.result ≡ word_at bytes (8 * i)
@@ -31,5 +31,5 @@ loop-i-preserved c =
 pub returns : goal.returns
 returns c =
     let all : length c.args.bytes.now ≤ 8 * c.loop-i.i
-    = omega (arith, c.loop-i-test.false, c.as_chunks.ensures.front_len, c.requires.1) in
+    = omega (arith, c.loop-i-test.false, c.as_chunks.ensures.front_len, c.requires.whole) in
     sym (c.loop-i.invariant.0 ∙ none_left c.loop-i.state (8 * (c.args.lane + c.loop-i.i)) (8 * c.loop-i.i) c.args.bytes.now all)

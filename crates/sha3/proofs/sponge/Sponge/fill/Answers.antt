@@ -1,4 +1,4 @@
-use Rattle.std.proofs.Common.{◌≡◌, ◌+◌, ◌<◌, length, sym, ap, ◌∙◌, arith}
+use Rattle.std.proofs.Common.{◌+◌, ◌<◌, length, sym, ap, ◌∙◌, arith}
 use Rattle.sha3.specs.Keccak.{keccak}
 use Rattle.sha3.proofs.Feeding.{part, whole}
 use Rattle.sha3.proofs.sponge.Sponge.fill.Goals as goal

@@ -1,7 +1,6 @@
 use Rattle.std.proofs.Common.{length, sym, ap, ◌∙◌}
 use Rattle.sha3.specs.Keccak.{keccak}
 use Rattle.sha3.specs.Sponge.{squeezed, sponge}
-use Rattle.sha3.specs.Feeding.{closed}
 use Rattle.sha3.proofs.Feeding.{finished}
 use Rattle.sha3.proofs.sponge.Sponge.finish.Goals as goal
 

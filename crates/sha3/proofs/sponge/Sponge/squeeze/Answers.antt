@@ -1,4 +1,4 @@
-use Rattle.std.proofs.Common.{◌≡◌, ◌+◌, ◌<◌, ◌≤◌, List, ℕ, length, sym, refl, ap, ◌∙◌, subst, arith}
+use Rattle.std.proofs.Common.{◌≡◌, ◌<◌, ◌≤◌, List, ℕ, length, refl, ◌∙◌, subst, arith}
 use Rattle.sha3.specs.Keccak.{keccak}
 use Rattle.sha3.specs.Sponge.{bytes_of, squeezed}
 use Rattle.sha3.proofs.Feeding.{length-keccak}
@@ -27,16 +27,16 @@ loop-byte-preserved c =
     let more : i < length out = omega (arith, c.loop-byte-test.true, c.loop-byte.auto.out) in
     let same : c.loop-byte.self.rate ≡ r = c.loop-byte.invariant.same_rate in
     let ready : (c.if-at-self.self.rate ≡ r) × (c.if-at-self.at < r) × (length c.if-at-self.self.state ≡ 25)
-        × Left r all i c.if-at-self.at out c.if-at-self.self.state
-    = elim c.if-at-self.branch [ 
-        then-at-self w ↦
-            let full : c.loop-byte.at ≡ r = w.if-at-self.true ∙ same in
-            let next : Left r all i 0 out (keccak s)
-            = left_block r i all out s more (subst (λ k. Left r all i k out s) full c.loop-byte.invariant.left) in
-            rw (w.self-is, w.at-is, w.permute.ensures) (same, omega arith, length-keccak s, next)
+    × Left r all i c.if-at-self.at out c.if-at-self.self.state
+    = elim c.if-at-self.branch [
+      | then-at-self w ↦
+          let full : c.loop-byte.at ≡ r = w.if-at-self.true ∙ same in
+          let next : Left r all i 0 out (keccak s)
+          = left_block r i all out s more (subst (λ k. Left r all i k out s) full c.loop-byte.invariant.left) in
+          rw (w.self-is, w.at-is, w.permute.ensures) (same, omega arith, length-keccak s, next)
       | else-at-self w ↦
-            let open-block : c.loop-byte.at < r = omega (arith, w.if-at-self.false, c.loop-byte.invariant.within) in
-            rw (w.self-is, w.at-is) (same, open-block, c.loop-byte.invariant.lanes open-block, c.loop-byte.invariant.left)
+          let open-block : c.loop-byte.at < r = omega (arith, w.if-at-self.false, c.loop-byte.invariant.within) in
+          rw (w.self-is, w.at-is) (same, open-block, c.loop-byte.invariant.lanes open-block, c.loop-byte.invariant.left)
     ] in
     let long : r ≤ length (bytes_of c.if-at-self.self.state)
     = omega (arith, length-bytes_of c.if-at-self.self.state, ready.2, c.args.self.now.block_fits) in
