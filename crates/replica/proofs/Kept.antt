@@ -1,59 +1,26 @@
 -- A web that is taken in from certified blocks stays as reading the order asks, also where the book grows. Assumes nothing beyond what the
 -- statements say.
-use Rattle.std.proofs.Common.{◌≡◌, ℕ, zero, suc, ◌-◌, ◌<◌, ◌≤◌, Bool, true, false, not, ◌&&◌, T, List, [], ◌∷◌, length, sym, refl, subst, ⊎_elim, arith, T_not}
+use Rattle.std.proofs.Common.{◌≡◌, ℕ, ◌-◌, ◌<◌, ◌≤◌, Bool, true, false, not, ◌&&◌, T, List, [], ◌∷◌, length, sym, refl, subst, ⊎_elim, arith, T_not}
 use lib.Dec.{nleb→lt}
-use Rattle.model.specs.Names.{is_in, all_in, distinct, different, union}
+use Rattle.model.specs.Names.{is_in, all_in, distinct, different}
 use Rattle.model.specs.Thresholds.{quorum}
 use Rattle.model.specs.Blocks.{Book, Block, authors_at, valid}
-use Rattle.model.specs.Reach.{parents_of, back, reached}
 use Rattle.model.specs.Member.{Member, new_member, rival, signable, takable, makable, after_sign, after_take, after_make}
 use Rattle.model.specs.Seat.{seat_limit, answer, after, full_signed, full_web, full_round, fit}
 use Rattle.model.specs.Promise.{whole_all}
 use Rattle.model.proofs.Tools.{and_left, and_right, and_both}
-use Rattle.model.proofs.Lists.{In, Within, in_none, in_here, in_there, in_cons, in_all, in_union_left, distinct_cons}
-use Rattle.model.proofs.Reach.{back_keeps}
+use Rattle.model.proofs.Lists.{In, Within, in_here, in_there, in_cons, in_all, distinct_cons}
 use Rattle.model.proofs.Safety.{whole}
 use Rattle.model.proofs.Validity.{valid_author, valid-distinct, valid_earlier, valid-quorum, make_valid}
+use Rattle.order_theory.proofs.Sound.{sound_web}
 use Rattle.replica.specs.Kept.{Kept, SameOf, Call, Sign, Take, Make, called, Certifies, Run, fresh, call, grow, WebsStayFit}
 
 -- the web holds the parents of what it holds
 abbrev Closed : Book → List ℕ → Type 0
 Closed b web = (x y : ℕ) → In x web → In y (b x).parents → In y web
 
-whole_at : (b : Book) (web xs : List ℕ) → T (whole_all b web xs) → (x : ℕ) → In x xs → Within (reached b x) web
-unfolding whole_all
-whole_at b web [] w x t = absurd (in_none x t)
-whole_at b web (z ∷ xs) w x t =
-    ⊎_elim
-    (λ e. subst (λ v. Within (reached b v) web) (sym e) (in_all (reached b z) web (and_left (all_in (reached b z) web) (whole_all b web xs) w)))
-    (λ h. whole_at b web xs (and_right (all_in (reached b z) web) (whole_all b web xs) w) x h)
-    (in_cons x z xs t)
-
-back_parent : (b : Book) (x y n : ℕ) → In y (b x).parents → (b y).round < n → In y (back b n (x ∷ []))
-unfolding back parents_of
-back_parent b x y zero t l = absurd (omega arith)
-back_parent b x y (suc n) t l =
-    back_keeps b n (union (parents_of b (x ∷ [])) (x ∷ [])) y
-    (in_union_left y (parents_of b (x ∷ [])) (x ∷ []) (in_union_left y (b x).parents (parents_of b []) t))
-
--- a parent of an earlier round is reached
-parent_reached : (b : Book) (x y : ℕ) → In y (b x).parents → (b y).round < (b x).round → In y (reached b x)
-unfolding reached
-parent_reached b x y t l = back_parent b x y (b x).round t l
-
-fit-valid : (f : ℕ) (b : Book) (xs : List ℕ) → T (fit f b xs) → (x : ℕ) → In x xs → T (valid f b (b x))
-unfolding fit
-fit-valid f b [] h x t = absurd (in_none x t)
-fit-valid f b (z ∷ xs) h x t =
-    let first = and_left (valid f b (b z) && not (rival b z xs)) (fit f b xs) h in
-    ⊎_elim (λ e. subst (λ v. T (valid f b (b v))) (sym e) (and_left (valid f b (b z)) (not (rival b z xs)) first))
-    (λ k. fit-valid f b xs (and_right (valid f b (b z) && not (rival b z xs)) (fit f b xs) h) x k)
-    (in_cons x z xs t)
-
 closed_from : (f : ℕ) (b : Book) (m : Member) → Kept f b m → Closed b m.web
-closed_from f b m k x y hx hy =
-    whole_at b m.web m.web k.whole x hx y
-    (parent_reached b x y hy (valid_earlier f b (b x) (fit-valid f b m.web k.fits x hx) y hy))
+closed_from f b m k = (sound_web f b m.web k.whole k.once k.fits).closed
 
 -- ---- a step
 -- what holds before a call, and after it where it is done, holds whatever the answer is

@@ -1,2 +1,3 @@
 mod Walks
+mod Authors
 pub mod Kept

@@ -1,12 +1,10 @@
 -- The definitions of lists of names, in the words of std's `any`, `all` and `contains`. Assumes nothing.
-use Rattle.std.proofs.Common.{◌≡◌, ℕ, zero, suc, ◌+◌, ◌<◌, Bool, true, false, cond, not, ◌&&◌, eqb, ltb, nat_eq, List, [], ◌∷◌, length, get_or, drop, Ok, Err, Result, refl, ◌∙◌, arith}
+use Rattle.std.proofs.Common.{◌≡◌, ℕ, zero, suc, ◌+◌, Bool, not, ◌&&◌, eqb, ltb, nat_eq, List, [], ◌∷◌, length, get_or, drop, refl, ◌∙◌, arith}
 use Rattle.std.specs.List.{list_any, list_all, range_with_len}
 use Rattle.std.proofs.lemmas.List.{at_drop_more, at_drop_all}
-use Rattle.std.proofs.lemmas.Bool.{cond-true, cond-false}
 use Rattle.std.proofs.lemmas.Bool.Decides.{nat_tests}
 use Rattle.model.specs.Names.{is_in, all_in, distinct}
-use Rattle.model.specs.Thresholds.{members}
-use Rattle.model.specs.Blocks.{Book, authors_at, all_earlier}
+use Rattle.model.specs.Blocks.{Book, all_earlier}
 use Rattle.model.specs.Member.{rival}
 
 -- what a slice's `contains` answers
@@ -51,29 +49,3 @@ pub distinct_places :
 unfolding distinct
 distinct_places xs a zero e = at_drop_all distinct xs a (omega arith)
 distinct_places xs a (suc n) e = at_drop_more distinct xs a 0 (omega arith) ∙ rw (distinct_places xs (a + 1) n (omega arith))
-
--- The authors of what is left from place i on, by those from the next place j on: the walk goes from the last place to the first.
-module _ (f : ℕ) (b : Book) (r : ℕ) (xs : List ℕ) (i j : ℕ) (next : i + 1 ≡ j) (there : i < length xs) where
-  step_authors :
-      authors_at f b r (drop i xs) ≡
-      cond (eqb (b (get_or xs i 0)).round r && ltb (b (get_or xs i 0)).author (members f)) ((b (get_or xs i 0)).author ∷ authors_at f b r (drop j xs))
-      (authors_at f b r (drop j xs))
-  unfolding authors_at
-  step_authors = at_drop_more (authors_at f b r) xs i 0 there ∙ rw next
-
-  -- one that counts
-  pub author_counts :
-      (eqb (b (get_or xs i 0)).round r && ltb (b (get_or xs i 0)).author (members f)) ≡ true →
-      authors_at f b r (drop i xs) ≡ (b (get_or xs i 0)).author ∷ authors_at f b r (drop j xs)
-  author_counts t = step_authors ∙ cond-true _ _ _ t
-
-  -- one that doesn't
-  pub author_passed :
-      (eqb (b (get_or xs i 0)).round r && ltb (b (get_or xs i 0)).author (members f)) ≡ false →
-      authors_at f b r (drop i xs) ≡ authors_at f b r (drop j xs)
-  author_passed t = step_authors ∙ cond-false _ _ _ t
-
--- what a call gives where its error can't be
-pub not_refused : {A E : Type 0} (r : Result A E) (P Q : Type 0) → (elim r as (λ _. Type 0) [ Ok _ ↦ P | Err _ ↦ Q ]) → (Q → ⊥) → P
-not_refused (Ok _) P Q h never = h
-not_refused (Err _) P Q h never = absurd (never h)

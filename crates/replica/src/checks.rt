@@ -84,7 +84,7 @@ impl<'a, B: Library> Candidate<'a, B> {
     }
 
     /// Whether its parent at a place stands behind that place again.
-    fn comes_again(&self, at: u32) -> bool
+    fn is_repeated(&self, at: u32) -> bool
         requires { at < length (block_of B.what self.now).parents }
         ensures { result ≡ is_in (slice_index (block_of B.what self.now).parents at) (drop (at + 1) (block_of B.what self.now).parents) }
     {
@@ -97,7 +97,7 @@ impl<'a, B: Library> Candidate<'a, B> {
     fn parents_differ(&self) -> bool
         ensures { result ≡ distinct (block_of B.what self.now).parents }
     {
-        (0..self.parent_count()).all(|at| !self.comes_again(at))
+        (0..self.parent_count()).all(|at| !self.is_repeated(at))
     }
 
     /// Whether this block of its book is of this round, and a member's.
@@ -112,10 +112,7 @@ impl<'a, B: Library> Candidate<'a, B> {
         ensures { Holds result.bits (authors_at faults.f (book_of B.what self.now) round (block_of B.what self.now).parents) }
     {
         let mut authors = MemberSet::empty();
-        // from the last parent to the first, since each author goes in front of those that are there; a fold over the places is no plainer, since
-        // its closure would hand the set on by value only to change it in place
-        for at in (0..self.parent_count()).rev() {
-            let parent = self.parent(at);
+        for parent in self.parents() {
             if self.is_members_at(faults, round, parent) {
                 // a member's number is small enough for a set of members, so this is always done
                 let _ = authors.insert(self.book.author(parent));

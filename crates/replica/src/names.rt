@@ -8,7 +8,7 @@ use std::marker::Model;
 
 /// A list of names, the latest first: contracts see the list alone. The array is filled from its end: the list is what stands from `from` on, so
 /// that to put a name in front of it moves nothing.
-// An array with an index beside it, and no `Vec`: a seat's memory is fixed.
+// an array with an index beside it, and no `Vec`, since a seat's memory is fixed
 #[derive(Drop)]
 pub struct NameList {
     names: [u32; ROOM],

@@ -78,6 +78,7 @@ pub trait Seat {
 
     /// The order that the member reads off its web: how long it is, and in `out` its names with noughts behind them. The book has to be the
     /// one by which the web was taken in, or what that has grown to.
+    // the caller lends the place for the names, since a seat's memory is fixed
     fn order<B: Library>(&self, book: &B, faults: Faults, out: &mut [u32; ROOM]) -> u32
         requires { Readable faults.f (B.Library.what book.now) (me self.now).web }
         ensures count { result ≡ length (order faults.f (B.Library.what book.now) (me self.now).web) }

@@ -8,7 +8,7 @@ pub struct LeaveToSign {
     name: u32,
 }
 
-/// What a leave was given for: the member's number and the block's name.
+/// What a leave was given for: the member's number and the block's name. It has the leave's fields, but says only what was, so it may be copied.
 #[derive(Clone, Copy, PartialEq, Eq, Debug)]
 pub struct Spent {
     pub number: u32,

@@ -1,5 +1,4 @@
-use Rattle.std.proofs.Common.{rules, ◌&&◌, not, eqb, ◌∙◌, sym}
-use borrow.Author.Tests.{tests}
+use Rattle.std.proofs.Common.{rules, tests, ◌&&◌, not, eqb, ◌∙◌, sym}
 use Rattle.std.proofs.lemmas.Iterator.{YieldsList-from_slice}
 use Rattle.std.proofs.lemmas.Iterator.Search.{any_from_yields_List}
 use Rattle.replica.specs.Candidates.{book_of}

@@ -1,5 +1,4 @@
-use Rattle.std.proofs.Common.{rules, ◌+◌, not, drop, length, get_or, ◌∙◌, sym, arith}
-use borrow.Author.Tests.{tests}
+use Rattle.std.proofs.Common.{rules, tests, ◌+◌, not, drop, length, get_or, ◌∙◌, sym, arith}
 use Rattle.std.proofs.lemmas.Iterator.{YieldsList-from_range}
 use Rattle.std.proofs.lemmas.Iterator.Search.{all_from_yields_List}
 use Rattle.model.specs.Names.{is_in}

@@ -1,10 +1,9 @@
-use Rattle.std.proofs.Common.{rules, ◌+◌, ◌-◌, eqb, length, get_or, ◌∙◌, sym, refl, arith}
-use borrow.Author.Tests.{tests}
+use Rattle.std.proofs.Common.{rules, tests, ◌+◌, ◌-◌, eqb, length, get_or, ◌∙◌, sym, refl, arith}
 use Rattle.std.proofs.lemmas.Iterator.{YieldsList-from_range}
 use Rattle.std.proofs.lemmas.Iterator.Search.{any_from_yields_List}
 use Rattle.replica.specs.Candidates.{block_of}
 use Rattle.replica.proofs.Walks.{is_in_places}
-use Rattle.replica.proofs.checks.Candidate.comes_again.Goals as goal
+use Rattle.replica.proofs.checks.Candidate.is_repeated.Goals as goal
 
 pub returns : goal.returns
 returns g c =
