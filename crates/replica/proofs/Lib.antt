@@ -1,3 +1,3 @@
-mod Walks
+mod Lists
 mod Authors
 pub mod Kept

@@ -150,7 +150,7 @@ impl<'a, B: Library> Candidate<'a, B> {
     }
 
     /// Whether a member that has taken these in may take it in.
-    #[tactic(auto, using(crate::proofs::Walks::is_in_has))]
+    #[tactic(auto, using(crate::proofs::Lists::is_in_has))]
     pub fn may_take(&self, certified: bool, taken: &[u32]) -> bool
         ensures { result ≡ (certified && all_in (block_of B.what self.now).parents taken.now && not (is_in self.now.name taken.now)
             && not (rival (book_of B.what self.now) self.now.name taken.now)) }

@@ -61,7 +61,7 @@ impl NameList {
     }
 
     /// Puts a name in front, unless it is there.
-    #[tactic(auto, using(crate::proofs::Walks::is_in_has))]
+    #[tactic(auto, using(crate::proofs::Lists::is_in_has))]
     pub fn insert(&mut self, name: u32)
         requires { length self.old < seat_limit }
         ensures { self.new ≡ cond (is_in name self.old) self.old (name ∷ self.old) }

@@ -2,7 +2,7 @@ use Rattle.std.proofs.Common.{rules, tests, ◌&&◌, not, eqb, ◌∙◌, sym}
 use Rattle.std.proofs.lemmas.Iterator.{YieldsList-from_slice}
 use Rattle.std.proofs.lemmas.Iterator.Search.{any_from_yields_List}
 use Rattle.replica.specs.Candidates.{book_of}
-use Rattle.replica.proofs.Walks.{rival_any}
+use Rattle.replica.proofs.Lists.{rival_any}
 use Rattle.replica.proofs.checks.Candidate.has_rival.Goals as goal
 
 pub returns : goal.returns

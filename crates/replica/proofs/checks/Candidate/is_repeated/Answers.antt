@@ -2,7 +2,7 @@ use Rattle.std.proofs.Common.{rules, tests, ◌+◌, ◌-◌, eqb, length, get_o
 use Rattle.std.proofs.lemmas.Iterator.{YieldsList-from_range}
 use Rattle.std.proofs.lemmas.Iterator.Search.{any_from_yields_List}
 use Rattle.replica.specs.Candidates.{block_of}
-use Rattle.replica.proofs.Walks.{is_in_places}
+use Rattle.replica.proofs.Lists.{is_in_places}
 use Rattle.replica.proofs.checks.Candidate.is_repeated.Goals as goal
 
 pub returns : goal.returns

@@ -2,7 +2,7 @@ use Rattle.std.proofs.Common.{rules, tests, ◌∙◌, sym}
 use Rattle.std.proofs.lemmas.Iterator.Consumers.{YieldsList-from_first}
 use Rattle.std.proofs.lemmas.Iterator.Search.{all_from_yields_List}
 use Rattle.replica.specs.Candidates.{block_of}
-use Rattle.replica.proofs.Walks.{has, all_in_has}
+use Rattle.replica.proofs.Lists.{has, all_in_has}
 use Rattle.replica.proofs.checks.Candidate.parents_among.Goals as goal
 
 pub returns : goal.returns

@@ -3,7 +3,7 @@ use Rattle.std.proofs.lemmas.Iterator.{YieldsList-from_range}
 use Rattle.std.proofs.lemmas.Iterator.Search.{all_from_yields_List}
 use Rattle.model.specs.Names.{is_in}
 use Rattle.replica.specs.Candidates.{block_of}
-use Rattle.replica.proofs.Walks.{distinct_places}
+use Rattle.replica.proofs.Lists.{distinct_places}
 use Rattle.replica.proofs.checks.Candidate.parents_differ.Goals as goal
 
 pub returns : goal.returns

@@ -2,7 +2,7 @@ use Rattle.std.proofs.Common.{rules, tests, ltb, ◌∙◌, sym}
 use Rattle.std.proofs.lemmas.Iterator.Consumers.{YieldsList-from_first}
 use Rattle.std.proofs.lemmas.Iterator.Search.{all_from_yields_List}
 use Rattle.replica.specs.Candidates.{book_of, block_of}
-use Rattle.replica.proofs.Walks.{earlier_all}
+use Rattle.replica.proofs.Lists.{earlier_all}
 use Rattle.replica.proofs.checks.Candidate.parents_earlier.Goals as goal
 
 pub returns : goal.returns
