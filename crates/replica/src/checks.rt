@@ -51,8 +51,8 @@ impl<'a, B: Library> Candidate<'a, B> {
         self.book.parent(self.name, at)
     }
 
-    /// Whether this is another block of its author and round.
-    fn has_as_rival(&self, other: u32) -> bool
+    /// Whether it and this other one are two blocks of one author and round.
+    fn is_rival_of(&self, other: u32) -> bool
         ensures { result ≡ (not (self.now.name == other) && ((block_of B.what self.now).author == (book_of B.what self.now other).author)
             && (block_of B.what self.now).round == (book_of B.what self.now other).round) }
     {
@@ -65,7 +65,7 @@ impl<'a, B: Library> Candidate<'a, B> {
     fn has_rival(&self, names: &[u32]) -> bool
         ensures { result ≡ rival (book_of B.what self.now) self.now.name names.now }
     {
-        names.iter().any(|other| self.has_as_rival(*other))
+        names.iter().any(|other| self.is_rival_of(*other))
     }
 
     /// Whether all its parents are among these.
