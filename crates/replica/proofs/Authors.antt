@@ -1,10 +1,12 @@
 -- A walk over a block's parents that puts the authors of those that count into a set. Assumes nothing.
-use Rattle.std.proofs.Common.{◌≡◌, ℕ, Bool, true, false, ◌&&◌, ◌||◌, T, eqb, ltb, List, [], ◌∷◌, Ok, Err, Result, refl, sym, subst, ◌∙◌, arith}
-use Rattle.std.proofs.lemmas.Bool.{cond-false}
+use Rattle.std.proofs.Common.{◌≡◌, ℕ, ◌<◌, ◌≤◌, Bool, true, false, ◌&&◌, ◌||◌, T, eqb, ltb, List, [], ◌∷◌, Ok, Err, Result, refl, sym, subst, ◌∙◌, arith}
+use Rattle.std.proofs.lemmas.Bool.{cond-false, ltb-true, and_parts}
+use Rattle.std.specs.Result.{IsOk}
 use Rattle.std.proofs.Math.Nat.{le_antisymm}
 use Rattle.model.specs.Names.{is_in}
 use Rattle.model.specs.Thresholds.{members}
 use Rattle.model.specs.Blocks.{Book, authors_at}
+use Rattle.model.proofs.Thresholds.{members-fit}
 use Rattle.model.proofs.Lists.{Within, below_in, in_below, different_within}
 use Rattle.members.specs.Sets.{Holds, Adds, limit}
 
@@ -59,7 +61,15 @@ module _ (f : ℕ) (b : Book) (r x : ℕ) (all rest : List ℕ) (bits : ℕ) (wa
   unfolding authors_at
   left_out t = subst (Walked bits all) (cond-false _ _ _ t) walked
 
--- what a call gives where its error can't be
-pub not_refused : {A E : Type 0} (r : Result A E) (P Q : Type 0) → (elim r as (λ _. Type 0) [ Ok _ ↦ P | Err _ ↦ Q ]) → (Q → ⊥) → P
-not_refused (Ok _) P Q h never = h
+-- the author of a parent that counts is small enough for a set of members
+pub small : (f : ℕ) (b : Book) (r x : ℕ) → f ≤ 4 → counts f b r x ≡ true → (b x).author < limit
+small f b r x few t =
+    let member = ltb-true (b x).author (members f) (and_parts (eqb (b x).round r) (ltb (b x).author (members f)) t).1 in
+    let fits = members-fit f few in
+    omega arith
+
+-- a call whose error can't be: it is done, and this is what it gives
+pub not_refused :
+    {A E : Type 0} (r : Result A E) (P Q : Type 0) → (elim r as (λ _. Type 0) [ Ok _ ↦ P | Err _ ↦ Q ]) → (Q → ⊥) → IsOk r × P
+not_refused (Ok _) P Q h never = (refl, h)
 not_refused (Err _) P Q h never = absurd (never h)

@@ -114,8 +114,8 @@ impl<'a, B: Library> Candidate<'a, B> {
         let mut authors = MemberSet::empty();
         for parent in self.parents() {
             if self.is_members_at(faults, round, parent) {
-                // a member's number is small enough for a set of members, so this is always done
-                let _ = authors.insert(self.book.author(parent));
+                // a member's number is small enough for a set of members
+                authors.insert(self.book.author(parent)).unwrap();
             }
         }
         authors
