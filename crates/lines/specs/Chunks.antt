@@ -7,7 +7,7 @@ use Rattle.lines.specs.declared.chunks.Chunks.{Chunks}
 
 -- the bytes of the chunk that came from the input and weren't given yet
 abbrev pub unread : {R : Type 0} → Chunks R → List ℕ
-unread c = drop c.at (take c.filled c.chunk)
+unread c = drop c.waiting.start (take c.waiting.end c.chunk)
 
 -- all bytes that are still to come, where the input's are known
 abbrev pub to_come : {R : Type 0} → (R → Option (List ℕ)) → Chunks R → Option (List ℕ)

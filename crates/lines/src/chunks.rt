@@ -1,19 +1,49 @@
 // The bytes of an input one by one, read a chunk at a time into memory of the reader's own.
-ghost use Rattle.std.specs.Prelude.{◌≤◌};
+ghost use Rattle.std.specs.Prelude.{◌≡◌, ◌≤◌, []};
 ghost use Rattle.lines.specs.declared.chunks.TheConstants.{CHUNK};
 
-mod giving;
+use std::io;
+use std::io::Read;
+use std::ops::Range;
 
 // So many bytes of the input are read at once.
 const CHUNK: usize = 4096;
 
-/// An input and the chunk that was read last: its first `filled` bytes came from the input, `at` of them were given.
+/// An input and the chunk that was read last, with the places in it of the bytes that weren't given yet. A reader of lines is made without asking for
+/// memory, which the library's `BufReader` does, so the chunk is an array.
 #[derive(Drop)]
 pub(crate) struct Chunks<R> {
     input: R,
     chunk: [u8; CHUNK],
-    at: usize,
-    filled: usize,
-    ghost passed: { at ≤ filled },
-    ghost fits: { filled ≤ CHUNK },
+    waiting: Range<usize>,
+    ghost fits: { waiting.end ≤ CHUNK },
+}
+
+impl<R: Read> Chunks<R> {
+    ghost use Rattle.lines.specs.Chunks.{unread, to_come, GivesByte};
+
+    /// Before the first byte.
+    pub(crate) fn new(input: R) -> Chunks<R>
+        ensures unread { unread result ≡ [] }
+        ensures input { result.input ≡ input }
+    {
+        Chunks {
+            input,
+            chunk: [0; CHUNK],
+            waiting: 0..0,
+        }
+    }
+
+    /// The next byte; none at the end of the input. An error loses nothing.
+    pub(crate) fn next_byte(&mut self) -> io::Result<Option<u8>>
+        ensures { GivesByte (to_come R.remaining self.old) (to_come R.remaining self.new) result }
+    {
+        if self.waiting.is_empty() {
+            self.waiting = 0..self.input.read(&mut self.chunk)?;
+        }
+        let Some(place) = self.waiting.next() else {
+            return Ok(None);
+        };
+        Ok(Some(self.chunk[place]))
+    }
 }
