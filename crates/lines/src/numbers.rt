@@ -12,10 +12,8 @@ fn with_digit(value: u32, byte: u8) -> Option<u32>
       | None ↦ (T (is_ascii_digit byte) → 2 ^ 32 ≤ value * 10 + (byte - 48))
     ] }
 {
-    if !byte.is_ascii_digit() {
-        return None;
-    }
-    value.checked_mul(BASE)?.checked_add(u32::from(byte - b'0'))
+    let digit = char::from(byte).to_digit(BASE)?;
+    value.checked_mul(BASE)?.checked_add(digit)
 }
 
 /// The number that is written by these digits, where there is one or more, nothing else, and the number fits.
