@@ -2,12 +2,7 @@
 use Rattle.std.proofs.Common.{◌≡◌, ℕ, suc, zero, ◌+◌, ◌*◌, ◌/◌, ◌%◌, ◌<◌, ◌≤◌, List, [], ◌∷◌, ◌++◌, length, get_or, drop, Some, None, Option, sym, refl, ap, ◌∙◌, append_assoc, append-nil, arith}
 use Rattle.std.proofs.lemmas.List.{drop_more, drop_all}
 use Rattle.std.specs.Simd.{first_chunks}
-use Rattle.lines.specs.Hex.{character_of, byte_of, before, decoded, hex_of}
-
--- the bytes that pairs of digits write
-unfoldable pub pairs_decoded : List (List ℕ) → Option (List ℕ)
-pairs_decoded [] = Some []
-pairs_decoded (pair ∷ pairs) = before (byte_of (get_or pair 0 0) (get_or pair 1 0)) (pairs_decoded pairs)
+use Rattle.lines.specs.Hex.{character_of, byte_of, before, decoded, pairs_decoded, hex_of}
 
 -- digits that are cut into pairs write what the pairs write
 pub decoded_by_pairs : (digits : List ℕ) (k : ℕ) → length digits ≡ 2 * k → decoded digits ≡ pairs_decoded (first_chunks 2 k digits)

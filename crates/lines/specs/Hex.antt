@@ -1,5 +1,5 @@
 -- Bytes as lower-case hexadecimal digits, two for each byte, the higher first. Assumes nothing.
-use Rattle.std.specs.Prelude.{◌≡◌, ℕ, ◌+◌, ◌-◌, ◌*◌, ◌/◌, ◌%◌, ◌<◌, Bool, true, cond, ◌&&◌, T, List, [], ◌∷◌, length, Some, None, Option, ◌==◌, nat_lt}
+use Rattle.std.specs.Prelude.{◌≡◌, ℕ, ◌+◌, ◌-◌, ◌*◌, ◌/◌, ◌%◌, ◌<◌, Bool, true, cond, ◌&&◌, T, List, [], ◌∷◌, length, slice_index, Some, None, Option, ◌==◌, nat_lt}
 
 -- the value of a digit: 0 to 9 are 48 to 57, and a to f are 97 to 102
 abbrev pub digit_of : ℕ → Option ℕ
@@ -33,6 +33,11 @@ unfoldable pub decoded : List ℕ → Option (List ℕ)
 decoded [] = Some []
 decoded (x ∷ []) = None
 decoded (x ∷ y ∷ rest) = before (byte_of x y) (decoded rest)
+
+-- the same of digits that stand two by two
+unfoldable pub pairs_decoded : List (List ℕ) → Option (List ℕ)
+pairs_decoded [] = Some []
+pairs_decoded (pair ∷ pairs) = before (byte_of (slice_index pair 0) (slice_index pair 1)) (pairs_decoded pairs)
 
 -- the n bytes that exactly 2 n digits write
 abbrev pub array_of : ℕ → List ℕ → Option (List ℕ)

@@ -1,7 +1,7 @@
 // Bytes in hexadecimal: two lower-case digits for each byte, the higher first.
-ghost use Rattle.std.specs.Prelude.{◌≡◌, ℕ, ◌<◌, ◌++◌, List, length, vec_items, IfOk, OnOk, Some, None};
+ghost use Rattle.std.specs.Prelude.{◌≡◌, ℕ, ◌*◌, ◌<◌, ◌++◌, List, length, vec_items, IfOk, OnOk, Some, None, MatchOption};
 ghost use Rattle.std.specs.Option.{option_map};
-ghost use Rattle.lines.specs.Hex.{digit_of, Small, character_of, byte_of, decoded, array_of, hex_of, Spells};
+ghost use Rattle.lines.specs.Hex.{digit_of, Small, character_of, byte_of, decoded, pairs_decoded, array_of, hex_of, Spells};
 
 use std::alloc::{AllocError, Global};
 
@@ -36,14 +36,23 @@ fn byte(high: u8, low: u8) -> Option<u8>
     Some(16 * value(high)? + value(low)?)
 }
 
+/// The digits two by two, where none is left over.
+fn pairs(digits: &[u8]) -> Option<&[[u8; 2]]>
+    ensures { MatchOption result
+        (decoded digits.now ≡ None)
+        (λ pairs. (decoded digits.now ≡ pairs_decoded pairs.now) × (length digits.now ≡ 2 * length pairs.now)) }
+{
+    let (pairs, rest) = digits.as_chunks();
+    if rest.is_empty() { Some(pairs) } else { None }
+}
+
 /// The bytes that digits write: an even number of them and nothing else, none included.
 pub fn decode(heap: Global, digits: &[u8]) -> Result<Option<Vec<u8>>, AllocError>
     ensures { IfOk result (λ o. option_map vec_items o ≡ decoded digits.now) }
 {
-    let (pairs, rest) = digits.as_chunks::<2>();
-    if !rest.is_empty() {
+    let Some(pairs) = pairs(digits) else {
         return Ok(None);
-    }
+    };
     let mut bytes = Vec::new(heap);
     for [high, low] in pairs {
         let Some(byte) = byte(*high, *low) else {
@@ -71,8 +80,8 @@ pub fn bytes_of(heap: Global, digits: &[u8]) -> Result<Option<Vec<u8>>, AllocErr
 pub fn array_of<const N: usize>(digits: &[u8]) -> Option<[u8; N]>
     ensures { result ≡ array_of N digits.now }
 {
-    let (pairs, rest) = digits.as_chunks::<2>();
-    if pairs.len() != N || !rest.is_empty() {
+    let pairs = pairs(digits)?;
+    if pairs.len() != N {
         return None;
     }
     let mut bytes = [0; N];
