@@ -1,7 +1,7 @@
 -- Secrets read line by line: what those so far and the lines left give together.
 -- Assumes nothing.
 
-use Rattle.std.proofs.Common.{◌≡◌, ℕ, suc, ◌+◌, ◌-◌, ◌<◌, List, [], ◌∷◌, ◌++◌, length, Some, None, Ok, Err, Result, sym, refl, ap, ◌∙◌, inr, append_assoc, append-nil, arith}
+use Rattle.std.proofs.Common.{◌≡◌, ℕ, zero, suc, ◌+◌, ◌-◌, ◌<◌, List, [], ◌∷◌, ◌++◌, length, Some, None, Ok, Err, Option, Result, sym, refl, ap, ◌∙◌, inr, append_assoc, append-nil, arith}
 use Rattle.scheme.specs.declared.keys.KeysError.{KeysError}
 use Rattle.scheme.specs.declared.keys.KeysError.TheVariants.{NotASecret, Missing, TooMany, OutOfMemory}
 use Rattle.scheme.specs.Keys.{secret_of, first_line, after_line, on_line, parsed, Fails}
@@ -15,10 +15,6 @@ pub added_none : (others : Result (List (List ℕ)) KeysError) → others ≡ ad
 added_none (Ok more) = refl
 added_none (Err e) = refl
 
--- A text that is not empty has a byte.
-pub some_byte : (r : List ℕ) → (length r ≡ 0 → ⊥) → 0 < length r
-some_byte r h = omega arith
-
 -- A text with a line to read.
 pub parsed_line : (k n : ℕ) (r : List ℕ) → 0 < length r → parsed k (suc n) r ≡ on_line k (secret_of (first_line r)) (parsed (k + 1) n (after_line r))
 unfolding parsed
@@ -30,54 +26,43 @@ added_line : (k : ℕ) (done : List (List ℕ)) (secret : List ℕ) (others : Re
 added_line k done secret (Ok others) = ap Ok (sym (append_assoc done (secret ∷ []) others))
 added_line k done secret (Err e) = refl
 
--- How many lines are left, before one more is read.
-left : (n i : ℕ) → i < n → n - i ≡ suc (n - (i + 1))
-left n i h = omega arith
-
-parsed-missing : (k n : ℕ) (r : List ℕ) → length r ≡ 0 → parsed k (suc n) r ≡ Err (Missing k)
+-- What the next line of a text gives, by what is left: k is its number, and n members' lines are to come.
+pub ended : (k n : ℕ) (r : List ℕ) → n ≡ 0 → length r ≡ 0 → parsed k n r ≡ Ok []
 unfolding parsed
-parsed-missing k n [] e = refl
-parsed-missing k n (b ∷ bs) e = absurd (omega arith)
+ended k zero [] e h = refl
+ended k zero (b ∷ bs) e h = absurd (omega arith)
+ended k (suc n) r e h = absurd (omega arith)
 
-parsed_all : (k : ℕ) (r : List ℕ) → length r ≡ 0 → parsed k 0 r ≡ Ok []
+pub too_many : (k n : ℕ) (r : List ℕ) → n ≡ 0 → 0 < length r → parsed k n r ≡ Err (TooMany k)
 unfolding parsed
-parsed_all k [] e = refl
-parsed_all k (b ∷ bs) e = absurd (omega arith)
+too_many k zero [] e h = absurd (omega arith)
+too_many k zero (b ∷ bs) e h = refl
+too_many k (suc n) r e h = absurd (omega arith)
 
-parsed_more : (k : ℕ) (r : List ℕ) → 0 < length r → parsed k 0 r ≡ Err (TooMany k)
+pub missing : (k n : ℕ) (r : List ℕ) → 0 < n → length r ≡ 0 → parsed k n r ≡ Err (Missing k)
 unfolding parsed
-parsed_more k [] h = absurd (omega arith)
-parsed_more k (b ∷ bs) h = refl
+missing k zero r some h = absurd (omega arith)
+missing k (suc n) [] some h = refl
+missing k (suc n) (b ∷ bs) some h = absurd (omega arith)
 
--- Line i + 1 of n is to be read from r, after the secrets `done`.
-module _ (n i : ℕ) (text r : List ℕ) (done : List (List ℕ)) (so_far : parsed 1 n text ≡ added done (parsed (i + 1) (n - i) r)) where
-  pub missing : i < n → length r ≡ 0 → parsed 1 n text ≡ Err (Missing (i + 1))
-  missing h none =
-      so_far ∙ ap (λ k. added done (parsed (i + 1) k r)) (left n i h) ∙ ap (added done) (parsed-missing (i + 1) (n - (i + 1)) r none)
+-- m members' lines come after this one, which has this secret or none.
+pub one_line : (k n m : ℕ) (r : List ℕ) (secret : Option (List ℕ)) → n ≡ suc m → 0 < length r → secret ≡ secret_of (first_line r)
+    → parsed k n r ≡ on_line k secret (parsed (k + 1) m (after_line r))
+one_line k n m r secret e h is =
+    ap (λ l. parsed k l r) e ∙ parsed_line k m r h ∙ ap (λ o. on_line k o (parsed (k + 1) m (after_line r))) (sym is)
 
-  here : i < n → 0 < length r
-      → parsed 1 n text ≡ added done (on_line (i + 1) (secret_of (first_line r)) (parsed (i + 1 + 1) (n - (i + 1)) (after_line r)))
-  here h some =
-      so_far ∙ ap (λ k. added done (parsed (i + 1) k r)) (left n i h) ∙ ap (added done) (parsed_line (i + 1) (n - (i + 1)) r some)
+-- A turn of a loop over the secrets: one more stands before those of the lines that are left.
+pub added_one : (k : ℕ) (done : List (List ℕ)) (secret : List ℕ) (all here others : Result (List (List ℕ)) KeysError)
+    → all ≡ added done here → here ≡ on_line k (Some secret) others → all ≡ added (done ++ (secret ∷ [])) others
+added_one k done secret all here others so_far e = so_far ∙ ap (added done) e ∙ added_line k done secret others
 
-  pub wrong : i < n → 0 < length r → secret_of (first_line r) ≡ None → parsed 1 n text ≡ Err (NotASecret (i + 1))
-  wrong h some none = here h some ∙ ap (λ s. added done (on_line (i + 1) s (parsed (i + 1 + 1) (n - (i + 1)) (after_line r)))) none
+-- The end of the lines: the secrets are those that were read.
+pub added_all : (done : List (List ℕ)) (all here : Result (List (List ℕ)) KeysError) → all ≡ added done here → here ≡ Ok [] → all ≡ Ok done
+added_all done all here so_far e = so_far ∙ ap (added done) e ∙ ap Ok (append-nil done)
 
-  pub one_more : (secret : List ℕ) → i < n → 0 < length r → secret_of (first_line r) ≡ Some secret
-      → parsed 1 n text ≡ added (done ++ (secret ∷ [])) (parsed (i + 1 + 1) (n - (i + 1)) (after_line r))
-  one_more secret h some e =
-      here h some ∙ ap (λ s. added done (on_line (i + 1) s (parsed (i + 1 + 1) (n - (i + 1)) (after_line r)))) e
-      ∙ added_line (i + 1) done secret (parsed (i + 1 + 1) (n - (i + 1)) (after_line r))
-
-  pub too_many : i ≡ n → 0 < length r → parsed 1 n text ≡ Err (TooMany (n + 1))
-  too_many e some =
-      let none : n - i ≡ 0 = omega arith in
-      so_far ∙ ap (λ k. added done (parsed (i + 1) k r)) none ∙ ap (added done) (parsed_more (i + 1) r some) ∙ ap (λ k. Err (TooMany (k + 1))) e
-
-  pub all_read : i ≡ n → length r ≡ 0 → parsed 1 n text ≡ Ok done
-  all_read e ends =
-      let none : n - i ≡ 0 = omega arith in
-      so_far ∙ ap (λ k. added done (parsed (i + 1) k r)) none ∙ ap (added done) (parsed_all (i + 1) r ends) ∙ ap Ok (append-nil done)
+-- An error ends them.
+pub added_error : (done : List (List ℕ)) (e : KeysError) (all here : Result (List (List ℕ)) KeysError) → all ≡ added done here → here ≡ Err e → all ≡ Err e
+added_error done e all here so_far is = so_far ∙ ap (added done) is
 
 -- A text that gives secrets can't be read for want of memory alone.
 pub read_fails :

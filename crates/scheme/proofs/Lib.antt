@@ -1,7 +1,6 @@
 pub mod Bytes
 mod Committee
 mod Digest
-mod Digits
 mod Ideal
 mod Lines
 pub mod Members

@@ -4,8 +4,10 @@
 use Rattle.std.proofs.Common.{◌≡◌, ℕ, zero, suc, ◌+◌, ◌-◌, ◌*◌, ◌/◌, ◌%◌, ◌<◌, ◌≤◌, true, false, ◌&&◌, eqb, ltb, leb, ◌⊎◌, List, [], ◌∷◌, ◌++◌, length, Some, None, Ok, Err, Option, Result, sym, refl, ap, ◌∙◌, subst, inl, inr, ⊎_elim, arith, length-append}
 use Rattle.std.proofs.lemmas.Bool.{cases_Bool, cases_lt, and_from, and_parts, and_right, cond-true, cond-false, cond_both, leb-true, le-leb, lt-leb, lt-ltb, le-ltb, eq-eqb, eqb-true, ne_eqb}
 use Rattle.scheme.specs.declared.keys.KeysError.{KeysError}
-use Rattle.scheme.specs.Keys.{digit_of, joined, unhex, secret_of, first_line, after_line, on_line, parsed}
-use Rattle.scheme.specs.Written.{digit_for, hex, written, unended, AreBytes, AreSecrets, ReadsBack, ReadsBackUnended, OnlyWritten}
+use Rattle.lines.specs.Hex.{character_of, decoded, hex_of}
+use Rattle.lines.proofs.Pairs.{spelled_decoded, decoded_written}
+use Rattle.scheme.specs.Keys.{secret_of, first_line, after_line, on_line, parsed}
+use Rattle.scheme.specs.Written.{written, unended, AreBytes, AreSecrets, ReadsBack, ReadsBackUnended, OnlyWritten}
 use Rattle.scheme.proofs.Committee.{parsed_line}
 
 some_inj : {A : Type 0} (a b : A) → Some a ≡ Some b → a ≡ b
@@ -14,133 +16,48 @@ some_inj a b e = cc
 none_some : {A : Type 0} (a : A) → None ≡ Some a → ⊥
 none_some a e = let z : ◌≡◌ {A = ℕ} 0 1 = cc in omega arith
 
--- ---- digits
-low : (b : ℕ) → 48 ≤ b → b ≤ 57 → digit_of b ≡ Some (b - 48)
-low b h g = cond-true (leb 48 b && leb b 57) _ _ (and_from (leb 48 b) (leb b 57) (le-leb 48 b h) (le-leb b 57 g))
-
-high : (b : ℕ) → 97 ≤ b → b ≤ 102 → digit_of b ≡ Some (b - 87)
-high b h g =
-    let above : 57 < b = omega arith in
-    cond-false (leb 48 b && leb b 57) _ _ (and_right (leb 48 b) (leb b 57) (lt-leb b 57 above))
-    ∙ cond-true (leb 97 b && leb b 102) _ _ (and_from (leb 97 b) (leb b 102) (le-leb 97 b h) (le-leb b 102 g))
-
-digit_for_low : (v : ℕ) → v < 10 → digit_for v ≡ v + 48
-digit_for_low v h = cond-true (ltb v 10) (v + 48) (v + 87) (lt-ltb v 10 h)
-
-digit_for_high : (v : ℕ) → 10 ≤ v → digit_for v ≡ v + 87
-digit_for_high v h = cond-false (ltb v 10) (v + 48) (v + 87) (le-ltb v 10 h)
-
-digit_back : (v : ℕ) → v < 16 → digit_of (digit_for v) ≡ Some v
-digit_back v h =
-    ⊎_elim
-    (λ l. ap digit_of (digit_for_low v l) ∙ low (v + 48) (omega arith) (omega arith) ∙ ap Some (omega arith))
-    (λ g. ap digit_of (digit_for_high v g) ∙ high (v + 87) (omega arith) (omega arith) ∙ ap Some (omega arith))
-    (cases_lt v 10)
-
-digit_for_above : (v : ℕ) → 48 ≤ digit_for v
-digit_for_above v = cond_both (ltb v 10) (v + 48) (v + 87) (λ d. 48 ≤ d) (λ e. omega arith) (λ e. omega arith)
-
-digit_inverse : (b v : ℕ) → digit_of b ≡ Some v → (b ≡ digit_for v) × (v < 16)
-digit_inverse b v e = ⊎_elim decimal-one (λ f. ⊎_elim (letter f) (neither f) (cases_Bool (leb 97 b && leb b 102))) (cases_Bool (leb 48 b && leb b 57))
-  where
-    decimal-one : (leb 48 b && leb b 57) ≡ true → (b ≡ digit_for v) × (v < 16)
-    decimal-one t =
-        let parts = and_parts (leb 48 b) (leb b 57) t in
-        let above : 48 ≤ b = leb-true 48 b parts.0 in
-        let below : b ≤ 57 = leb-true b 57 parts.1 in
-        let v-is : b - 48 ≡ v = some_inj (b - 48) v (sym (low b above below) ∙ e) in
-        let small : v < 10 = omega arith in
-        (sym (digit_for_low v small ∙ omega arith), omega arith)
-
-    letter : (leb 48 b && leb b 57) ≡ false → (leb 97 b && leb b 102) ≡ true → (b ≡ digit_for v) × (v < 16)
-    letter f t =
-        let parts = and_parts (leb 97 b) (leb b 102) t in
-        let above : 97 ≤ b = leb-true 97 b parts.0 in
-        let below : b ≤ 102 = leb-true b 102 parts.1 in
-        let v-is : b - 87 ≡ v = some_inj (b - 87) v (sym (high b above below) ∙ e) in
-        let large : 10 ≤ v = omega arith in
-        (sym (digit_for_high v large ∙ omega arith), omega arith)
-
-    neither : (leb 48 b && leb b 57) ≡ false → (leb 97 b && leb b 102) ≡ false → (b ≡ digit_for v) × (v < 16)
-    neither f g = absurd (none_some v (sym (cond-false (leb 48 b && leb b 57) _ _ f ∙ cond-false (leb 97 b && leb b 102) _ _ g) ∙ e))
-
 -- ---- secrets
-length-hex : (s : List ℕ) → length (hex s) ≡ 2 * length s
-unfolding hex
-length-hex [] = refl
-length-hex (b ∷ bs) = let ih = length-hex bs in omega arith
+length-hex_of : (s : List ℕ) → length (hex_of s) ≡ 2 * length s
+unfolding hex_of
+length-hex_of [] = refl
+length-hex_of (b ∷ bs) = let ih = length-hex_of bs in omega arith
 
-unhex-hex : (s : List ℕ) → AreBytes s → unhex (hex s) ≡ Some s
-unfolding unhex hex AreBytes
-unhex-hex [] a = refl
-unhex-hex (b ∷ bs) a =
-    let byte : b < 256 = a.0 in
-    let whole : 16 * (b / 16) + b % 16 ≡ b = omega arith in
-    ap (λ d. joined d (digit_of (digit_for (b % 16))) (unhex (hex bs))) (digit_back (b / 16) (omega arith))
-    ∙ ap (λ d. joined (Some (b / 16)) d (unhex (hex bs))) (digit_back (b % 16) (omega arith))
-    ∙ ap (joined (Some (b / 16)) (Some (b % 16))) (unhex-hex bs a.1)
-    ∙ ap (λ v. Some (v ∷ bs)) whole
-
-two : (h l : ℕ) (ds s : List ℕ) (a b : Option ℕ) (r : Option (List ℕ)) → digit_of h ≡ a → digit_of l ≡ b
-    → ((t : List ℕ) → r ≡ Some t → (ds ≡ hex t) × AreBytes t) → joined a b r ≡ Some s → (h ∷ l ∷ ds ≡ hex s) × AreBytes s
-unfolding hex AreBytes
-two h l ds s None b r eh el ih e = absurd (none_some s e)
-two h l ds s (Some x) None r eh el ih e = absurd (none_some s e)
-two h l ds s (Some x) (Some y) None eh el ih e = absurd (none_some s e)
-two h l ds s (Some x) (Some y) (Some t) eh el ih e =
-    let s-is : (16 * x + y) ∷ t ≡ s = some_inj ((16 * x + y) ∷ t) s e in
-    let first = digit_inverse h x eh in
-    let second = digit_inverse l y el in
-    let rest = ih t refl in
-    let x-small : x < 16 = first.1 in
-    let y-small : y < 16 = second.1 in
-    let high_is : (16 * x + y) / 16 ≡ x = omega arith in
-    let low-is : (16 * x + y) % 16 ≡ y = omega arith in
-    let byte : 16 * x + y < 256 = omega arith in
-    let text : h ∷ l ∷ ds ≡ hex ((16 * x + y) ∷ t)
-    = ap (λ c. c ∷ l ∷ ds) (first.0 ∙ ap digit_for (sym high_is))
-    ∙ ap (λ c. digit_for ((16 * x + y) / 16) ∷ c ∷ ds) (second.0 ∙ ap digit_for (sym low-is))
-    ∙ ap (λ cs. digit_for ((16 * x + y) / 16) ∷ digit_for ((16 * x + y) % 16) ∷ cs) rest.0 in
-    (text ∙ ap hex s-is, subst AreBytes s-is (byte, rest.1))
-
-unhex_inverse : (ds s : List ℕ) → unhex ds ≡ Some s → (ds ≡ hex s) × AreBytes s
-unfolding unhex hex AreBytes
-unhex_inverse [] s e = let s-is : [] ≡ s = some_inj [] s e in (ap hex s-is, subst AreBytes s-is tt)
-unhex_inverse (d ∷ []) s e = absurd (none_some s e)
-unhex_inverse (h ∷ l ∷ ds) s e = two h l ds s (digit_of h) (digit_of l) (unhex ds) refl refl (unhex_inverse ds) e
-
-secret_back : (s : List ℕ) → length s ≡ 32 → AreBytes s → secret_of (hex s) ≡ Some s
+secret_back : (s : List ℕ) → length s ≡ 32 → AreBytes s → secret_of (hex_of s) ≡ Some s
 secret_back s long a =
-    let digits = length-hex s in
-    let all : length (hex s) ≡ 64 = omega arith in
-    cond-true (eqb (length (hex s)) 64) (unhex (hex s)) None (eq-eqb (length (hex s)) 64 all) ∙ unhex-hex s a
+    let digits = length-hex_of s in
+    let all : length (hex_of s) ≡ 64 = omega arith in
+    cond-true (eqb (length (hex_of s)) 64) (decoded (hex_of s)) None (eq-eqb (length (hex_of s)) 64 all)
+    ∙ spelled_decoded (hex_of s) s (record { some = omega arith; all = a; is = refl })
 
-secret_inverse : (line s : List ℕ) → secret_of line ≡ Some s → (line ≡ hex s) × ((length s ≡ 32) × AreBytes s)
+secret_inverse : (line s : List ℕ) → secret_of line ≡ Some s → (line ≡ hex_of s) × ((length s ≡ 32) × AreBytes s)
 secret_inverse line s e = ⊎_elim right wrong (cases_Bool (eqb (length line) 64))
   where
-    right : eqb (length line) 64 ≡ true → (line ≡ hex s) × ((length s ≡ 32) × AreBytes s)
+    right : eqb (length line) 64 ≡ true → (line ≡ hex_of s) × ((length s ≡ 32) × AreBytes s)
     right t =
-        let inverse = unhex_inverse line s (sym (cond-true (eqb (length line) 64) (unhex line) None t) ∙ e) in
-        let digits = length-hex s in
+        let inverse = decoded_written line s (sym (cond-true (eqb (length line) 64) (decoded line) None t) ∙ e) in
+        let digits = length-hex_of s in
         let long : length line ≡ 64 = eqb-true (length line) 64 t in
-        let same : length line ≡ length (hex s) = ap length inverse.0 in
-        (inverse.0, (omega arith, inverse.1))
+        let same : length (hex_of s) ≡ length line = ap length inverse.0 in
+        (sym inverse.0, (omega arith, inverse.1))
 
-    wrong : eqb (length line) 64 ≡ false → (line ≡ hex s) × ((length s ≡ 32) × AreBytes s)
-    wrong f = absurd (none_some s (sym (cond-false (eqb (length line) 64) (unhex line) None f) ∙ e))
+    wrong : eqb (length line) 64 ≡ false → (line ≡ hex_of s) × ((length s ≡ 32) × AreBytes s)
+    wrong f = absurd (none_some s (sym (cond-false (eqb (length line) 64) (decoded line) None f) ∙ e))
 
 -- ---- lines
+character_above : (v : ℕ) → 48 ≤ character_of v
+character_above v = cond_both (ltb v 10) (48 + v) (87 + v) (λ d. 48 ≤ d) (λ e. omega arith) (λ e. omega arith)
+
 unfoldable NoFeed : List ℕ → Type 0
 NoFeed [] = Unit {0}
 NoFeed (b ∷ bs) = (b ≡ 10 → ⊥) × NoFeed bs
 
-hex_no_feed : (s : List ℕ) → NoFeed (hex s)
-unfolding hex NoFeed
-hex_no_feed [] = tt
-hex_no_feed (b ∷ bs) =
-    let first = digit_for_above (b / 16) in
-    let second = digit_for_above (b % 16) in
-    ((λ e. omega arith), ((λ e. omega arith), hex_no_feed bs))
+digits_no_feed : (s : List ℕ) → NoFeed (hex_of s)
+unfolding hex_of NoFeed
+digits_no_feed [] = tt
+digits_no_feed (b ∷ bs) =
+    let first = character_above (b / 16) in
+    let second = character_above (b % 16) in
+    ((λ e. omega arith), ((λ e. omega arith), digits_no_feed bs))
 
 first_line-ended : (ds rest : List ℕ) → NoFeed ds → first_line (ds ++ (10 ∷ rest)) ≡ ds
 unfolding first_line NoFeed
@@ -186,25 +103,25 @@ split (b ∷ bs) = ⊎_elim feed (λ f. ⊎_elim (more f) (last f) (split bs)) (
 
 -- ---- files
 ended_line : (k n : ℕ) (s rest : List ℕ) → length s ≡ 32 → AreBytes s
-    → parsed k (suc n) (hex s ++ (10 ∷ rest)) ≡ on_line k (Some s) (parsed (k + 1) n rest)
+    → parsed k (suc n) (hex_of s ++ (10 ∷ rest)) ≡ on_line k (Some s) (parsed (k + 1) n rest)
 ended_line k n s rest long a =
-    let clean = hex_no_feed s in
-    let size = length-append (hex s) (10 ∷ rest) in
-    let some : 0 < length (hex s ++ (10 ∷ rest)) = omega arith in
-    parsed_line k n (hex s ++ (10 ∷ rest)) some
-    ∙ ap (λ l. on_line k (secret_of l) (parsed (k + 1) n (after_line (hex s ++ (10 ∷ rest))))) (first_line-ended (hex s) rest clean)
-    ∙ ap (λ o. on_line k o (parsed (k + 1) n (after_line (hex s ++ (10 ∷ rest))))) (secret_back s long a)
-    ∙ ap (λ r. on_line k (Some s) (parsed (k + 1) n r)) (after_line-ended (hex s) rest clean)
+    let clean = digits_no_feed s in
+    let size = length-append (hex_of s) (10 ∷ rest) in
+    let some : 0 < length (hex_of s ++ (10 ∷ rest)) = omega arith in
+    parsed_line k n (hex_of s ++ (10 ∷ rest)) some
+    ∙ ap (λ l. on_line k (secret_of l) (parsed (k + 1) n (after_line (hex_of s ++ (10 ∷ rest))))) (first_line-ended (hex_of s) rest clean)
+    ∙ ap (λ o. on_line k o (parsed (k + 1) n (after_line (hex_of s ++ (10 ∷ rest))))) (secret_back s long a)
+    ∙ ap (λ r. on_line k (Some s) (parsed (k + 1) n r)) (after_line-ended (hex_of s) rest clean)
 
-last_line : (k n : ℕ) (s : List ℕ) → length s ≡ 32 → AreBytes s → parsed k (suc n) (hex s) ≡ on_line k (Some s) (parsed (k + 1) n [])
+last_line : (k n : ℕ) (s : List ℕ) → length s ≡ 32 → AreBytes s → parsed k (suc n) (hex_of s) ≡ on_line k (Some s) (parsed (k + 1) n [])
 last_line k n s long a =
-    let clean = hex_no_feed s in
-    let size = length-hex s in
-    let some : 0 < length (hex s) = omega arith in
-    parsed_line k n (hex s) some
-    ∙ ap (λ l. on_line k (secret_of l) (parsed (k + 1) n (after_line (hex s)))) (first_line_last (hex s) clean)
-    ∙ ap (λ o. on_line k o (parsed (k + 1) n (after_line (hex s)))) (secret_back s long a)
-    ∙ ap (λ r. on_line k (Some s) (parsed (k + 1) n r)) (after_line_last (hex s) clean)
+    let clean = digits_no_feed s in
+    let size = length-hex_of s in
+    let some : 0 < length (hex_of s) = omega arith in
+    parsed_line k n (hex_of s) some
+    ∙ ap (λ l. on_line k (secret_of l) (parsed (k + 1) n (after_line (hex_of s)))) (first_line_last (hex_of s) clean)
+    ∙ ap (λ o. on_line k o (parsed (k + 1) n (after_line (hex_of s)))) (secret_back s long a)
+    ∙ ap (λ r. on_line k (Some s) (parsed (k + 1) n r)) (after_line_last (hex_of s) clean)
 
 pub reads_back : ReadsBack
 unfolding parsed written AreSecrets
@@ -235,14 +152,14 @@ unfolding parsed
 none_left k zero others e = sym (ok_inj [] others e)
 none_left k (suc n) others e = absurd (err_ok _ others e)
 
-joins : (t s rest : List ℕ) (others : List (List ℕ)) → t ≡ hex s ++ (10 ∷ rest) → (rest ≡ written others) ⊎ (rest ≡ unended others)
+joins : (t s rest : List ℕ) (others : List (List ℕ)) → t ≡ hex_of s ++ (10 ∷ rest) → (rest ≡ written others) ⊎ (rest ≡ unended others)
     → (t ≡ written (s ∷ others)) ⊎ (t ≡ unended (s ∷ others))
 unfolding written unended
-joins t s rest [] e either = inl (e ∙ ap (λ r. hex s ++ (10 ∷ r)) (⊎_elim (λ w. w) (λ u. u) either))
+joins t s rest [] e either = inl (e ∙ ap (λ r. hex_of s ++ (10 ∷ r)) (⊎_elim (λ w. w) (λ u. u) either))
 joins t s rest (other ∷ others) e either =
-    ⊎_elim (λ w. inl (e ∙ ap (λ r. hex s ++ (10 ∷ r)) w)) (λ u. inr (e ∙ ap (λ r. hex s ++ (10 ∷ r)) u)) either
+    ⊎_elim (λ w. inl (e ∙ ap (λ r. hex_of s ++ (10 ∷ r)) w)) (λ u. inr (e ∙ ap (λ r. hex_of s ++ (10 ∷ r)) u)) either
 
-ends : (t s : List ℕ) (others : List (List ℕ)) → t ≡ hex s → others ≡ [] → t ≡ unended (s ∷ others)
+ends : (t s : List ℕ) (others : List (List ℕ)) → t ≡ hex_of s → others ≡ [] → t ≡ unended (s ∷ others)
 unfolding unended
 ends t s others e none = e ∙ ap (λ os. unended (s ∷ os)) (sym none)
 

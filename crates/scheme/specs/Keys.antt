@@ -2,7 +2,10 @@
 -- A line ends with a line feed, which the last one may lack. Nothing else is allowed; the first line that is wrong gives the error.
 
 use Rattle.std.specs.Prelude.{◌≡◌, ℕ, zero, suc, ◌+◌, ◌-◌, ◌*◌, cond, ◌&&◌, ◌⊎◌, List, [], ◌∷◌, ◌++◌, map, length, Some, None, Ok, Err, vec_items, codes, decimal, Option, Result, ◌==◌, nat_le}
+use Rattle.lines.specs.Hex.{array_of}
 use Rattle.scheme.specs.declared.keys.Keys.{Keys}
+use Rattle.scheme.specs.declared.keys.Secret.{Secret}
+use Rattle.scheme.specs.declared.keys.Secrets.{Secrets}
 use Rattle.scheme.specs.declared.keys.KeysError.{KeysError}
 use Rattle.scheme.specs.declared.keys.KeysError.TheVariants.{NotASecret, Missing, TooMany, OutOfMemory}
 
@@ -10,25 +13,9 @@ use Rattle.scheme.specs.declared.keys.KeysError.TheVariants.{NotASecret, Missing
 abbrev pub keys_of : Keys → List (List ℕ)
 keys_of keys = map (λ secret. secret.0) (vec_items keys.secrets)
 
--- The value of a digit: '0' to '9' or 'a' to 'f'.
-abbrev pub digit_of : ℕ → Option ℕ
-digit_of b = cond (nat_le 48 b && nat_le b 57) (Some (b - 48)) (cond (nat_le 97 b && nat_le b 102) (Some (b - 87)) None)
-
--- A byte of two digits, before the bytes of those that follow.
-abbrev pub joined : Option ℕ → Option ℕ → Option (List ℕ) → Option (List ℕ)
-joined None low bytes = None
-joined (Some high) None bytes = None
-joined (Some high) (Some low) None = None
-joined (Some high) (Some low) (Some bytes) = Some ((16 * high + low) ∷ bytes)
-
-unfoldable pub unhex : List ℕ → Option (List ℕ)
-unhex [] = Some []
-unhex (d ∷ []) = None
-unhex (high ∷ low ∷ digits) = joined (digit_of high) (digit_of low) (unhex digits)
-
--- The secret on a line.
+-- The secret on a line: the 32 bytes that 64 digits write.
 abbrev pub secret_of : List ℕ → Option (List ℕ)
-secret_of line = cond (length line == 64) (unhex line) None
+secret_of line = array_of 32 line
 
 -- The first line of a text, without its line feed, and what stands after it.
 unfoldable pub first_line : List ℕ → List ℕ
@@ -51,6 +38,16 @@ parsed k zero [] = Ok []
 parsed k zero (b ∷ bs) = Err (TooMany k)
 parsed k (suc n) [] = Err (Missing k)
 parsed k (suc n) (b ∷ bs) = on_line k (secret_of (first_line (b ∷ bs))) (parsed (k + 1) n (after_line (b ∷ bs)))
+
+-- What the lines give that a walk has not read yet.
+abbrev pub left : Secrets → Result (List (List ℕ)) KeysError
+left s = parsed s.line s.members s.rest.now
+
+-- A step of the walk gives the first line's secret, or the error, or nothing, where the text has ended as it should.
+abbrev pub Gives : Secrets → Option (Result Secret KeysError) → Secrets → Type 0
+Gives s None t = left s ≡ Ok []
+Gives s (Some (Ok secret)) t = left s ≡ on_line s.line (Some secret.0) (left t)
+Gives s (Some (Err e)) t = left s ≡ Err e
 
 -- An error is the text's own, or memory is wanting, and then the text has none.
 abbrev pub Fails : KeysError → Result (List (List ℕ)) KeysError → Type 0

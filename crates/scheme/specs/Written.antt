@@ -1,30 +1,22 @@
 -- A file KEYS as it is written, and the laws that tie writing and reading: what is written is read back, and nothing else is read.
 -- So these say in one line which bytes are a file KEYS, and of which secrets.
 
-use Rattle.std.specs.Prelude.{◌≡◌, ℕ, ◌+◌, ◌/◌, ◌%◌, ◌<◌, cond, ◌⊎◌, List, [], ◌∷◌, ◌++◌, length, Ok, nat_lt}
+use Rattle.std.specs.Prelude.{◌≡◌, ℕ, T, ◌⊎◌, List, [], ◌∷◌, ◌++◌, length, Ok}
+use Rattle.lines.specs.Hex.{hex_of, all_bytes}
 use Rattle.scheme.specs.Keys.{parsed}
-
-abbrev pub digit_for : ℕ → ℕ
-digit_for v = cond (nat_lt v 10) (v + 48) (v + 87)
-
--- Two digits for each byte, the high one first.
-unfoldable pub hex : List ℕ → List ℕ
-hex [] = []
-hex (b ∷ bs) = digit_for (b / 16) ∷ digit_for (b % 16) ∷ hex bs
 
 -- The file with all its line feeds, and the file without the last.
 unfoldable pub written : List (List ℕ) → List ℕ
 written [] = []
-written (s ∷ secrets) = hex s ++ (10 ∷ written secrets)
+written (s ∷ secrets) = hex_of s ++ (10 ∷ written secrets)
 
 unfoldable pub unended : List (List ℕ) → List ℕ
 unended [] = []
-unended (s ∷ []) = hex s
-unended (s ∷ other ∷ secrets) = hex s ++ (10 ∷ unended (other ∷ secrets))
+unended (s ∷ []) = hex_of s
+unended (s ∷ other ∷ secrets) = hex_of s ++ (10 ∷ unended (other ∷ secrets))
 
-unfoldable pub AreBytes : List ℕ → Type 0
-AreBytes [] = Unit {0}
-AreBytes (b ∷ bs) = (b < 256) × AreBytes bs
+abbrev pub AreBytes : List ℕ → Type 0
+AreBytes bytes = T (all_bytes bytes)
 
 unfoldable pub AreSecrets : List (List ℕ) → Type 0
 AreSecrets [] = Unit {0}

@@ -2,20 +2,18 @@
 //!
 //! Nothing here prints a secret: `Secret` and `Keys` have neither `Debug` nor `Display`.
 
-ghost use Rattle.std.specs.Prelude.{◌≡◌, ℕ, List, Some, Ok, Err, MatchResult, ◌≢◌};
-ghost use Rattle.std.specs.Option.{option_map};
+ghost use Rattle.std.specs.Prelude.{◌≡◌, ℕ, ◌+◌, ◌^◌, ◌<◌, min, List, length, Some, Ok, Err, MatchResult, ◌≢◌};
+ghost use Rattle.std.specs.Iterator.{at_most};
 ghost use Rattle.scheme.specs.declared.keys.KeysError.TheVariants.{OutOfMemory};
-ghost use Rattle.scheme.specs.Keys.{keys_of, digit_of, secret_of, first_line, after_line, parsed, Fails, told};
+ghost use Rattle.scheme.specs.Keys.{keys_of, first_line, after_line, parsed, left, Gives, Fails, told};
 ghost use Rattle.scheme.specs.Written.{ReadsBack, ReadsBackUnended, OnlyWritten};
 
+use lines::hex;
 use std::alloc::{AllocFailed, Global};
 use std::fmt;
 
 /// The length of a secret in bytes.
 pub const SECRET_LENGTH: usize = 32;
-
-/// The number of digits of a secret on its line.
-const DIGITS: usize = 64;
 
 /// What a member signs with.
 #[derive(Drop)]
@@ -64,51 +62,74 @@ impl<T: Drop> From<AllocFailed<T>> for KeysError {
     }
 }
 
-/// The value of a lower-case hexadecimal digit.
-fn digit(byte: u8) -> Option<u8>
-    ensures { result ≡ digit_of byte }
-{
-    match byte {
-        b'0'..=b'9' => Some(byte - b'0'),
-        b'a'..=b'f' => Some(byte - b'a' + 10),
-        _ => None,
-    }
-}
-
-/// The secret whose digits a line is.
-fn read_secret(line: &[u8]) -> Option<Secret>
-    ensures { option_map (λ secret. secret.0) result ≡ secret_of line.now }
-{
-    if line.len() != DIGITS {
-        return None;
-    }
-    let mut bytes = [0; SECRET_LENGTH];
-    let mut rest = line;
-    for i in 0..SECRET_LENGTH {
-        let [high, low, tail @ ..] = rest else {
-            return None;
-        };
-        let high = digit(*high)?;
-        let low = digit(*low)?;
-        bytes[i] = 16 * high + low;
-        rest = tail;
-    }
-    Some(Secret(bytes))
-}
-
 /// The first line of a text, without its line feed, and what stands after it.
 fn split_line(text: &[u8]) -> (&[u8], &[u8])
     ensures line { result.0.now ≡ first_line text.now }
     ensures rest { result.1.now ≡ after_line text.now }
 {
-    let mut end = 0;
-    while end < text.len() {
-        if text[end] == b'\n' {
-            return (&text[0..end], &text[end + 1..]);
-        }
-        end += 1;
+    match text.iter().position(|byte| *byte == b'\n') {
+        Some(end) => (&text[..end], &text[end + 1..]),
+        None => (text, &[]),
     }
-    (text, &text[end..])
+}
+
+/// The secrets of a text that has a line for each member and nothing more, in the order of the members. The first item that is an error
+/// says why the text is none; what comes after it says nothing.
+#[derive(Drop)]
+struct Secrets<'a> {
+    /// The text that is left.
+    rest: &'a [u8],
+    /// The number of its first line.
+    line: usize,
+    /// The number of members whose lines it has.
+    members: usize,
+}
+
+impl<'a> Secrets<'a> {
+    /// The secrets of so many members.
+    fn of(members: u32, text: &'a [u8]) -> Secrets<'a>
+        ensures all { left result ≡ parsed 1 members text.now }
+        ensures counts { result.line + result.members ≡ 1 + members }
+    {
+        Secrets {
+            rest: text,
+            line: 1,
+            members: members as usize,
+        }
+    }
+}
+
+impl Iterator for Secrets<'_> {
+    type Item = Result<Secret, KeysError>;
+
+    ghost can_next = { λ s. s.line + s.members < 2 ^ 64 };
+
+    ghost next_gives = { Gives };
+
+    // One for each member, and one for what is too many.
+    ghost remaining = { λ s. at_most (s.members + min 1 (length s.rest.now)) };
+
+    fn next(&mut self) -> Option<Result<Secret, KeysError>> {
+        let line = self.line;
+        let Some(members) = self.members.checked_sub(1) else {
+            if self.rest.is_empty() {
+                return None;
+            }
+            self.rest = &[];
+            return Some(Err(KeysError::TooMany { line }));
+        };
+        self.members = members;
+        if self.rest.is_empty() {
+            return Some(Err(KeysError::Missing { line }));
+        }
+        let (first, rest) = split_line(self.rest);
+        self.rest = rest;
+        self.line += 1;
+        match hex::array_of::<SECRET_LENGTH>(first) {
+            Some(bytes) => Some(Ok(Secret(bytes))),
+            None => Some(Err(KeysError::NotASecret { line })),
+        }
+    }
 }
 
 /// Whether the text has a right line for each of so many members and nothing more; else the first error. It needs no memory.
@@ -117,21 +138,8 @@ fn check_lines(members: u32, text: &[u8]) -> Result<(), KeysError>
         (λ _. (secrets : List (List ℕ)) × (parsed 1 members text.now ≡ Ok secrets))
         (λ e. parsed 1 members text.now ≡ Err e) }
 {
-    let members = members as usize;
-    let mut rest = text;
-    for i in 0..members {
-        let line = i + 1;
-        if rest.is_empty() {
-            return Err(KeysError::Missing { line });
-        }
-        let (first, after) = split_line(rest);
-        let Some(_secret) = read_secret(first) else {
-            return Err(KeysError::NotASecret { line });
-        };
-        rest = after;
-    }
-    if !rest.is_empty() {
-        return Err(KeysError::TooMany { line: members + 1 });
+    for secret in Secrets::of(members, text) {
+        secret?;
     }
     Ok(())
 }
@@ -143,23 +151,9 @@ impl Keys {
             (λ keys. parsed 1 members text.now ≡ Ok (keys_of keys))
             (λ e. (e ≢ OutOfMemory) → parsed 1 members text.now ≡ Err e) }
     {
-        let members = members as usize;
         let mut secrets = Vec::new(heap);
-        let mut rest = text;
-        for i in 0..members {
-            if rest.is_empty() {
-                return Err(KeysError::Missing { line: i + 1 });
-            }
-            let (first, after) = split_line(rest);
-            let Some(secret) = read_secret(first) else {
-                return Err(KeysError::NotASecret { line: i + 1 });
-            };
-            secrets.push(secret)?;
-            rest = after;
-        }
-        if !rest.is_empty() {
-            let line = members + 1;
-            return Err(KeysError::TooMany { line });
+        for secret in Secrets::of(members, text) {
+            secrets.push(secret?)?;
         }
         Ok(Keys { secrets })
     }

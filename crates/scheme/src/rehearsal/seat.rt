@@ -32,10 +32,10 @@ fn equal(given: &[u8], right: &[u8; SIGNATURE_LENGTH]) -> bool
     if given.len() != SIGNATURE_LENGTH {
         return false;
     }
-    let mut difference = 0;
-    for i in 0..SIGNATURE_LENGTH {
-        difference |= given[i] ^ right[i];
-    }
+    let difference = given
+        .iter()
+        .zip(right)
+        .fold(0, |difference, (a, b)| difference | (a ^ b));
     difference == 0
 }
 

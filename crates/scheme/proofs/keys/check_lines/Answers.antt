@@ -1,53 +1,46 @@
-use Rattle.std.proofs.Common.{◌≡◌, ◌+◌, ◌-◌, [], ◌∷◌, ◌++◌, length, sym, ap, ◌∙◌, arith}
-use Rattle.std.proofs.lemmas.Bool.{eqb-true, eqb-false}
-use Rattle.scheme.specs.Keys.{secret_of, parsed}
-use Rattle.scheme.proofs.Committee.{added, missing, wrong, one_more, too_many, all_read, added_none, some_byte}
+use Rattle.std.proofs.Common.{◌≡◌, [], ◌∷◌, ◌++◌, Some, Result, sym, ap, ◌∙◌, subst, arith}
+use Rattle.std.proofs.lemmas.Result.{err_from_is_err_and}
+use Rattle.scheme.specs.declared.keys.KeysError.{KeysError}
+use Rattle.scheme.specs.declared.keys.Secret.{Secret}
+use Rattle.scheme.specs.Keys.{parsed, left, Gives}
+use Rattle.scheme.proofs.Committee.{added, added_none, added_one, added_all, added_error}
 use Rattle.scheme.proofs.keys.check_lines.Goals as goal
 
-pub loop-i-init : goal.loop-i-init
-loop-i-init c =
-    let n = c.args.members in
-    let all : n ≡ n - 0 = omega arith in
-    ([], added_none (parsed 1 n c.args.text.now) ∙ ap (λ k. added [] (parsed 1 k c.args.text.now)) all)
+pub loop-secret-init : goal.loop-secret-init
+loop-secret-init c =
+    let same = c.into_iter-secret-iterator.ensures.into_iter_gives in
+    let counts = ap (λ s. s.line) same in
+    let members = ap (λ s. s.members) same in (
+      omega arith,
+      tt,
+      [],
+      sym (ap left same ∙ c.of-secret-items.ensures.all) ∙ added_none (left c.into_iter-secret-iterator.result),
+    )
 
-pub returns-then-is_empty : goal.returns-then-is_empty
-returns-then-is_empty c =
-    let none : length c.loop-i.rest.now ≡ 0 = eqb-true (length c.loop-i.rest.now) 0 (sym c.if-is_empty.ensures) in
-    missing c.args.members c.loop-i.i c.args.text.now c.loop-i.rest.now c.loop-i.invariant.0 c.loop-i.invariant.1
-    c.loop-i-test.true none
+pub returns-in_err-secret : goal.returns-in_err-secret
+returns-in_err-secret c =
+    let it = c.loop-secret.secret-iterator in
+    let all = parsed 1 c.args.members c.args.text.now in
+    let e = c.in_err-secret.field-0.0 in
+    let gives = subst (λ (x : Result Secret KeysError). Gives it (Some x) c.next.new.self) c.in_err-secret.was c.in-Some.ensures.steps in
+    let p = err_from_is_err_and c.from_residual.result c.from_residual.ensures.1 in
+    rw (p.1, p.2) (added_error c.loop-secret.invariant.2 e all (left it) c.loop-secret.invariant.3 gives)
 
-pub returns-in_default : goal.returns-in_default
-returns-in_default c =
-    let r = c.loop-i.rest.now in
-    wrong c.args.members c.loop-i.i c.args.text.now r c.loop-i.invariant.0 c.loop-i.invariant.1 c.loop-i-test.true
-    (some_byte r (eqb-false (length r) 0 (sym c.if-is_empty.ensures)))
-    (ap secret_of (sym c.split_line.ensures.line) ∙ sym c.in_default.ensures)
-
-pub returns-then-not-is_empty : goal.returns-then-not-is_empty
-returns-then-not-is_empty c =
-    let r = c.loop-i.rest.now in
-    let ends : c.loop-i.i ≡ c.args.members = omega arith in
-    too_many c.args.members c.loop-i.i c.args.text.now r c.loop-i.invariant.0 c.loop-i.invariant.1 ends
-    (some_byte r (eqb-false (length r) 0 (sym c.if-not-is_empty.ensures)))
+pub loop-secret-preserved : goal.loop-secret-preserved
+loop-secret-preserved c =
+    let it = c.loop-secret.secret-iterator in
+    let all = parsed 1 c.args.members c.args.text.now in
+    let done = c.loop-secret.invariant.2 in
+    let s = c.in_ok-secret.field-0.0 in
+    let gives = subst (λ (x : Result Secret KeysError). Gives it (Some x) c.next.new.self) c.in_ok-secret.was c.in-Some.ensures.steps in (
+      c.in-Some.ensures.goes.keeps,
+      tt,
+      done ++ (s ∷ []),
+      added_one it.line done s all (left it) (left c.next.new.self) c.loop-secret.invariant.3 gives,
+    )
 
 pub returns : goal.returns
 returns c =
-    let ends : c.loop-i.i ≡ c.args.members = omega arith in
-    let none : length c.loop-i.rest.now ≡ 0 = eqb-true (length c.loop-i.rest.now) 0 (sym c.if-not-is_empty.ensures) in (
-      c.loop-i.invariant.0,
-      all_read c.args.members c.loop-i.i c.args.text.now c.loop-i.rest.now c.loop-i.invariant.0 c.loop-i.invariant.1 ends none,
-    )
-
-pub loop-i-preserved : goal.loop-i-preserved
-loop-i-preserved c =
-    let r = c.loop-i.rest.now in
-    let n = c.args.members in
-    let i = c.loop-i.i in
-    let done = c.loop-i.invariant.0 in
-    let s = c.in-Some._secret.0 in (
-      done ++ (s ∷ []),
-      one_more n i c.args.text.now r done c.loop-i.invariant.1 s c.loop-i-test.true
-          (some_byte r (eqb-false (length r) 0 (sym c.if-is_empty.ensures)))
-          (ap secret_of (sym c.split_line.ensures.line) ∙ sym c.in-Some.ensures)
-          ∙ ap (λ rest. added (done ++ (s ∷ [])) (parsed (i + 1 + 1) (n - (i + 1)) rest)) (sym c.split_line.ensures.rest),
-    )
+    let it = c.loop-secret.secret-iterator in
+    let all = parsed 1 c.args.members c.args.text.now in
+    (c.loop-secret.invariant.2, added_all c.loop-secret.invariant.2 all (left it) c.loop-secret.invariant.3 c.in-None.ensures.steps)

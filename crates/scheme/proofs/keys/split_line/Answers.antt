@@ -1,27 +1,18 @@
-use Rattle.std.proofs.Common.{◌≡◌, ◌+◌, ◌≤◌, length, ◌∙◌, arith}
-use Rattle.scheme.proofs.Lines.{line_on, after_line_on, at_feed, at_end}
+use Rattle.std.proofs.Common.{◌+◌, drop, length, rules, ◌∙◌, arith, take_all, length-drop}
+use Rattle.scheme.proofs.Lines.{at_feed, no_feed}
 use Rattle.scheme.proofs.keys.split_line.Goals as goal
 
-pub returns-then-text-end-eq10 : goal.returns-then-text-end-eq10
-returns-then-text-end-eq10 c =
-    let i = c.loop-end.invariant in
-    let parts = at_feed c.args.text.now c.loop-end.end c.loop-end-test.true c.if-text-end-eq10.true i.0 i.1 in
-    record { line = parts.0; rest = parts.1 }
+pub returns-in-Some-clause-line : goal.returns-in-Some-clause-line
+returns-in-Some-clause-line c = (at_feed c.args.text.now c.in-Some.end (search rules) (search rules) (search rules)).0
 
-pub loop-end-preserved : goal.loop-end-preserved
-loop-end-preserved c =
-    let t = c.args.text.now in
-    let i = c.loop-end.end in
-    let less = c.loop-end-test.true in
-    let more : i + 1 ≤ length t = omega arith in (
-      line_on t i less c.if-text-end-eq10.false c.loop-end.invariant.0,
-      c.loop-end.invariant.1 ∙ after_line_on t i less c.if-text-end-eq10.false,
-      more,
-    )
+pub returns-in-Some-clause-rest : goal.returns-in-Some-clause-rest
+returns-in-Some-clause-rest c =
+    let after = drop (c.in-Some.end + 1) c.args.text.now in
+    take_all _ after (omega (arith, length-drop (c.in-Some.end + 1) c.args.text.now))
+    ∙ (at_feed c.args.text.now c.in-Some.end (search rules) (search rules) (search rules)).1
 
-pub returns : goal.returns
-returns c =
-    let i = c.loop-end.invariant in
-    let ends : c.loop-end.end ≡ length c.args.text.now = omega arith in
-    let parts = at_end c.args.text.now c.loop-end.end ends i.0 i.1 in
-    record { line = parts.0; rest = parts.1 }
+pub returns-in-None-clause-line : goal.returns-in-None-clause-line
+returns-in-None-clause-line c = (no_feed c.args.text.now (search rules)).0
+
+pub returns-in-None-clause-rest : goal.returns-in-None-clause-rest
+returns-in-None-clause-rest c = (no_feed c.args.text.now (search rules)).1
