@@ -1,13 +1,13 @@
--- `same` is equality of lists, found byte by byte with the differences kept; `is_in` is kept where a list grows at its front.
+-- `same` is equality of lists, found by joining their differences; `is_in` is kept where a list grows at its front.
 -- Assumes nothing.
 
-use Rattle.std.proofs.Common.{◌≡◌, ℕ, ◌+◌, ◌<◌, Bool, true, false, ◌&&◌, T, eqb, List, [], ◌∷◌, ◌++◌, length, get_or, drop, sym, refl, ap, ◌∙◌, subst, ⊎_elim, add-one, arith, eqb→eq, drop-cons}
+use Rattle.std.proofs.Common.{◌≡◌, ℕ, Bool, true, false, ◌&&◌, T, eqb, List, [], ◌∷◌, ◌++◌, length, sym, refl, fold, ap, ◌∙◌, subst, ⊎_elim, arith, eqb→eq}
+use Rattle.std.specs.List.{zip}
 use mathlib.Core.Bool.{or-true, and-true}
 use lib.Dec.{eqb_refl}
-use lib.Seq.{drop-length}
 use lib.Bits.{bit_or, bit_xor, or_zero_l, xor_zero_l, xor_zero_r, xor_self, xor_assoc, or_add_and, xor_add_and}
 use Rattle.std.proofs.lemmas.Bool.{cases_Bool, both_ways, and_from, eqb-true, eq-eqb, ne_eqb}
-use Rattle.scheme.specs.Bytes.{same, is_in}
+use Rattle.scheme.specs.Bytes.{same, differences, is_in}
 
 pub holds : (b : Bool) → b ≡ true → T b
 holds b e = subst T (sym e) tt
@@ -46,12 +46,6 @@ pub same_lengths : (xs ys : List ℕ) → (length xs ≡ length ys → ⊥) → 
 same_lengths xs ys differ =
     ⊎_elim (λ e. absurd (differ (ap length (same_equal xs ys e)))) (λ e. e) (cases_Bool (same xs ys))
 
--- One place further.
-pub same_on : (xs ys : List ℕ) (i : ℕ) → i < length xs → i < length ys
-    → same (drop i xs) (drop i ys) ≡ (eqb (get_or xs i 0) (get_or ys i 0) && same (drop (i + 1) xs) (drop (i + 1) ys))
-unfolding same
-same_on xs ys i hx hy = rw (drop-cons xs i 0 hx, drop-cons ys i 0 hy, add-one)
-
 xor_apart : (x y : ℕ) → bit_xor x y ≡ 0 → x ≡ y
 xor_apart x y e =
     sym (sym (xor_zero_l y) ∙ ap (λ z. bit_xor z y) (sym (xor_self x)) ∙ xor_assoc x x y ∙ ap (bit_xor x) e ∙ xor_zero_r x)
@@ -82,26 +76,21 @@ difference_kept d x y = ⊎_elim equal unlike (cases_Bool (eqb d 0 && eqb x y))
         both_ways (eqb d 0 && eqb x y) e (and_from (eqb d 0) (eqb x y) (eq-eqb d 0 parts.0) (eq-eqb x y (xor_apart x y parts.1))))
         ∙ sym e
 
-pub and_assoc : (a b c : Bool) → ((a && b) && c) ≡ (a && (b && c))
+and_assoc : (a b c : Bool) → ((a && b) && c) ≡ (a && (b && c))
 and_assoc true b c = refl
 and_assoc false b c = refl
 
--- The comparison at place i: what is known so far, with one byte more.
-pub compared_on : (xs ys : List ℕ) (i d : ℕ) → i < length xs → i < length ys
-    → same xs ys ≡ (eqb d 0 && same (drop i xs) (drop i ys))
-    → same xs ys ≡ (eqb (bit_or d (bit_xor (get_or xs i 0) (get_or ys i 0))) 0 && same (drop (i + 1) xs) (drop (i + 1) ys))
-compared_on xs ys i d hx hy e =
-    let x : ℕ = get_or xs i 0 in
-    let y : ℕ = get_or ys i 0 in
-    let rest : Bool = same (drop (i + 1) xs) (drop (i + 1) ys) in
-    e ∙ ap (λ b. eqb d 0 && b) (same_on xs ys i hx hy) ∙ sym (and_assoc (eqb d 0) (eqb x y) rest)
-    ∙ ap (λ b. b && rest) (sym (difference_kept d x y))
+-- Lists of one length differ nowhere just where they are the same: d has the differences before them.
+no_difference : (d : ℕ) (xs ys : List ℕ) → length xs ≡ length ys
+    → eqb (fold (λ found p. bit_or found (bit_xor p.0 p.1)) d (zip xs ys)) 0 ≡ (eqb d 0 && same xs ys)
+unfolding same
+no_difference d [] [] e = sym (and-true (eqb d 0))
+no_difference d [] (y ∷ ys) e = absurd (omega arith)
+no_difference d (x ∷ xs) [] e = absurd (omega arith)
+no_difference d (x ∷ xs) (y ∷ ys) e =
+    no_difference (bit_or d (bit_xor x y)) xs ys (omega arith)
+    ∙ ap (λ b. b && same xs ys) (difference_kept d x y)
+    ∙ and_assoc (eqb d 0) (eqb x y) (same xs ys)
 
--- The comparison at the end.
-pub compared_all : (xs ys : List ℕ) (i d : ℕ) → i ≡ length xs → i ≡ length ys
-    → same xs ys ≡ (eqb d 0 && same (drop i xs) (drop i ys)) → eqb d 0 ≡ same xs ys
-compared_all xs ys i d ex ey e =
-    sym (e ∙ ap (λ b. eqb d 0 && b)
-    (ap (λ zs. same zs (drop i ys)) (ap (λ k. drop k xs) ex ∙ drop-length xs)
-    ∙ ap (same []) (ap (λ k. drop k ys) ey ∙ drop-length ys) ∙ same_refl [])
-    ∙ and-true (eqb d 0))
+pub same_if_no_differences : (xs ys : List ℕ) → length xs ≡ length ys → eqb (differences xs ys) 0 ≡ same xs ys
+same_if_no_differences xs ys e = no_difference 0 xs ys e

@@ -1,7 +1,7 @@
 -- The file KEYS: a line for each member, its secret of 32 bytes as 64 lower-case hexadecimal digits.
 -- A line ends with a line feed, which the last one may lack. Nothing else is allowed; the first line that is wrong gives the error.
 
-use Rattle.std.specs.Prelude.{◌≡◌, ℕ, zero, suc, ◌+◌, ◌-◌, ◌*◌, cond, ◌&&◌, ◌⊎◌, List, [], ◌∷◌, ◌++◌, map, length, Some, None, Ok, Err, vec_items, codes, decimal, Option, Result, ◌==◌, nat_le}
+use Rattle.std.specs.Prelude.{◌≡◌, ℕ, zero, suc, ◌+◌, cond, ◌⊎◌, List, [], ◌∷◌, ◌++◌, map, Some, None, Ok, Err, vec_items, codes, decimal, Option, Result, ◌==◌}
 use Rattle.lines.specs.Hex.{array_of}
 use Rattle.scheme.specs.declared.keys.Keys.{Keys}
 use Rattle.scheme.specs.declared.keys.Secret.{Secret}

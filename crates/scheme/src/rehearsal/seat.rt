@@ -2,7 +2,7 @@
 
 ghost use Rattle.std.specs.Prelude.{◌≡◌, ◌<◌, ◌≤◌, [], ◌++◌, length, MatchOption};
 ghost use Rattle.sha3.specs.Sponge.{sha3_512};
-ghost use Rattle.scheme.specs.Bytes.{same};
+ghost use Rattle.scheme.specs.Bytes.{same, differences};
 ghost use Rattle.scheme.specs.Keys.{keys_of};
 ghost use Rattle.scheme.specs.Rehearsal.{right_for, signature_by, seat_keys, seat_member, seat_secret, seat_said};
 
@@ -25,6 +25,13 @@ fn signature_by(secret: &Secret, message: &[u8]) -> [u8; SIGNATURE_LENGTH]
     hasher.finish()
 }
 
+/// In which bits two lists of bytes differ anywhere, as far as both go.
+fn differences(xs: &[u8], ys: &[u8]) -> u8
+    ensures { result ≡ differences xs.now ys.now }
+{
+    xs.iter().zip(ys).fold(0, |found, (x, y)| found | (*x ^ *y))
+}
+
 /// Whether two signatures are equal. It looks at all bytes, wherever they differ.
 fn equal(given: &[u8], right: &[u8; SIGNATURE_LENGTH]) -> bool
     ensures { result ≡ same given.now right.now }
@@ -32,11 +39,7 @@ fn equal(given: &[u8], right: &[u8; SIGNATURE_LENGTH]) -> bool
     if given.len() != SIGNATURE_LENGTH {
         return false;
     }
-    let difference = given
-        .iter()
-        .zip(right)
-        .fold(0, |difference, (a, b)| difference | (a ^ b));
-    difference == 0
+    differences(given, right) == 0
 }
 
 impl Rehearsal {

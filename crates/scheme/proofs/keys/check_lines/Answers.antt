@@ -1,9 +1,9 @@
-use Rattle.std.proofs.Common.{◌≡◌, [], ◌∷◌, ◌++◌, Some, Result, sym, ap, ◌∙◌, subst, arith}
+use Rattle.std.proofs.Common.{[], ◌∷◌, ◌++◌, Some, Result, sym, ap, ◌∙◌, subst, arith}
 use Rattle.std.proofs.lemmas.Result.{err_from_is_err_and}
 use Rattle.scheme.specs.declared.keys.KeysError.{KeysError}
 use Rattle.scheme.specs.declared.keys.Secret.{Secret}
 use Rattle.scheme.specs.Keys.{parsed, left, Gives}
-use Rattle.scheme.proofs.Committee.{added, added_none, added_one, added_all, added_error}
+use Rattle.scheme.proofs.Committee.{added_none, added_one, added_all, added_error}
 use Rattle.scheme.proofs.keys.check_lines.Goals as goal
 
 pub loop-secret-init : goal.loop-secret-init

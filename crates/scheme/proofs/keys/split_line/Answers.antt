@@ -1,4 +1,4 @@
-use Rattle.std.proofs.Common.{◌+◌, drop, length, rules, ◌∙◌, arith, take_all, length-drop}
+use Rattle.std.proofs.Common.{◌+◌, drop, rules, ◌∙◌, arith, take_all, length-drop}
 use Rattle.scheme.proofs.Lines.{at_feed, no_feed}
 use Rattle.scheme.proofs.keys.split_line.Goals as goal
 
