@@ -1,10 +1,13 @@
 -- Secrets read line by line: what those so far and the lines left give together.
 -- Assumes nothing.
 
-use Rattle.std.proofs.Common.{◌≡◌, ℕ, zero, suc, ◌+◌, ◌<◌, List, [], ◌∷◌, ◌++◌, length, Some, Ok, Err, Option, Result, sym, refl, ap, ◌∙◌, inr, append_assoc, append-nil, arith}
+use Rattle.std.proofs.Common.{◌≡◌, ℕ, zero, suc, ◌+◌, ◌<◌, List, [], ◌∷◌, ◌++◌, length, Some, None, Ok, Err, Option, Result, sym, refl, ap, ◌∙◌, inr, append_assoc, append-nil, arith}
+use Rattle.std.specs.Option.{option_map, ok_or}
+use Rattle.scheme.specs.declared.keys.Secret.{Secret}
+use Rattle.scheme.specs.declared.keys.Secrets.{Secrets}
 use Rattle.scheme.specs.declared.keys.KeysError.{KeysError}
 use Rattle.scheme.specs.declared.keys.KeysError.TheVariants.{NotASecret, Missing, TooMany, OutOfMemory}
-use Rattle.scheme.specs.Keys.{secret_of, first_line, after_line, on_line, parsed, Fails}
+use Rattle.scheme.specs.Keys.{secret_of, first_line, after_line, on_line, parsed, left, Gives, Fails}
 
 -- Secrets before those that lines give, if they give any.
 abbrev pub added : List (List ℕ) → Result (List (List ℕ)) KeysError → Result (List (List ℕ)) KeysError
@@ -50,6 +53,12 @@ pub one_line : (k n m : ℕ) (r : List ℕ) (secret : Option (List ℕ)) → n �
     → parsed k n r ≡ on_line k secret (parsed (k + 1) m (after_line r))
 one_line k n m r secret e h is =
     ap (λ l. parsed k l r) e ∙ parsed_line k m r h ∙ ap (λ o. on_line k o (parsed (k + 1) m (after_line r))) (sym is)
+
+-- A step that reads a line: its secret, or the error that it has none.
+pub gives_line : (s t : Secrets) (secret : Option Secret) → left s ≡ on_line s.line (option_map (λ x. x.0) secret) (left t)
+    → Gives s (Some (ok_or secret (NotASecret s.line))) t
+gives_line s t None e = e
+gives_line s t (Some secret) e = e
 
 -- A turn of a loop over the secrets: one more stands before those of the lines that are left.
 pub added_one : (k : ℕ) (done : List (List ℕ)) (secret : List ℕ) (all here others : Result (List (List ℕ)) KeysError)

@@ -4,8 +4,9 @@
 
 ghost use Rattle.std.specs.Prelude.{◌≡◌, ℕ, ◌+◌, ◌^◌, ◌<◌, min, List, length, Some, Ok, Err, MatchResult, ◌≢◌};
 ghost use Rattle.std.specs.Iterator.{at_most};
+ghost use Rattle.std.specs.Option.{option_map};
 ghost use Rattle.scheme.specs.declared.keys.KeysError.TheVariants.{OutOfMemory};
-ghost use Rattle.scheme.specs.Keys.{keys_of, first_line, after_line, parsed, left, Gives, Fails, told};
+ghost use Rattle.scheme.specs.Keys.{keys_of, secret_of, first_line, after_line, parsed, left, Gives, Fails, told};
 ghost use Rattle.scheme.specs.Written.{ReadsBack, ReadsBackUnended, OnlyWritten};
 
 use lines::hex;
@@ -60,6 +61,13 @@ impl<T: Drop> From<AllocFailed<T>> for KeysError {
     fn from(_: AllocFailed<T>) -> KeysError {
         KeysError::OutOfMemory
     }
+}
+
+/// The secret whose digits a line is.
+fn read_secret(line: &[u8]) -> Option<Secret>
+    ensures { option_map (λ secret. secret.0) result ≡ secret_of line.now }
+{
+    hex::array_of(line).map(Secret)
 }
 
 /// The first line of a text, without its line feed, and what stands after it.
@@ -125,10 +133,7 @@ impl Iterator for Secrets<'_> {
         let (first, rest) = split_line(self.rest);
         self.rest = rest;
         self.line += 1;
-        match hex::array_of::<SECRET_LENGTH>(first) {
-            Some(bytes) => Some(Ok(Secret(bytes))),
-            None => Some(Err(KeysError::NotASecret { line })),
-        }
+        Some(read_secret(first).ok_or(KeysError::NotASecret { line }))
     }
 }
 
