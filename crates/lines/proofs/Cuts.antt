@@ -1,7 +1,8 @@
 -- A line's words: its first space, and what stands before and after it. Assumes nothing.
-use Rattle.std.proofs.Common.{◌≡◌, ℕ, zero, suc, ◌+◌, ◌-◌, ◌<◌, Bool, true, false, cond, not, ◌&&◌, ◌||◌, T, eqb, List, [], ◌∷◌, ◌++◌, length, get_or, take, drop, is_some, Some, None, Option, sym, refl, ap, ◌∙◌, arith, Bor}
+use Rattle.std.proofs.Common.{◌≡◌, ℕ, zero, suc, ◌+◌, ◌-◌, ◌<◌, Bool, true, false, cond, not, ◌||◌, T, eqb, List, [], ◌∷◌, ◌++◌, length, get_or, take, drop, is_some, Some, None, Option, sym, refl, ap, ◌∙◌, arith, Bor}
 use Rattle.std.proofs.lemmas.List.{take_rest}
 use Rattle.std.proofs.lemmas.Bool.{eq-eqb, ne_eqb, cond-true, cond-false, eqb-true, or_from, or_parts, true≢false}
+use Rattle.lines.proofs.Both.{and_left, and_right}
 use Rattle.lines.specs.Left.{left_of}
 use Rattle.lines.specs.Words.{space, has, in_front, words_of, none, joined, spaceless, WordsJoin}
 
@@ -95,14 +96,6 @@ word_before (b ∷ bs) rest p = go (eqb b space) (word_before bs rest) p
         cond t ([] ∷ words_of (bs ++ (space ∷ rest))) (in_front b (words_of (bs ++ (space ∷ rest)))) ≡ (b ∷ bs) ∷ words_of rest
     go true h p = absurd p
     go false h p = ap (in_front b) (h p)
-
-and_left : (a b : Bool) → T (a && b) → T a
-and_left true b p = tt
-and_left false b p = absurd p
-
-and_right : (a b : Bool) → T (a && b) → T b
-and_right true b p = p
-and_right false b p = absurd p
 
 words_of-joined : (w : List ℕ) (ws : List (List ℕ)) → T (spaceless (w ∷ ws)) → words_of (joined (w ∷ ws)) ≡ w ∷ ws
 unfolding joined spaceless

@@ -1,16 +1,9 @@
 -- Numbers, digit by digit. Assumes nothing.
-use Rattle.std.proofs.Common.{◌≡◌, ℕ, ◌+◌, ◌-◌, ◌*◌, ◌^◌, ◌<◌, ◌≤◌, Bool, true, false, ◌&&◌, T, List, [], ◌∷◌, length, get_or, drop, sym, refl, ap, ◌∙◌, subst, le_refl, arith}
+use Rattle.std.proofs.Common.{◌≡◌, ℕ, ◌+◌, ◌-◌, ◌*◌, ◌^◌, ◌<◌, ◌≤◌, ◌&&◌, T, List, [], ◌∷◌, length, get_or, drop, sym, refl, ap, ◌∙◌, subst, le_refl, arith}
 use Rattle.std.specs.Char.{is_ascii_digit}
 use Rattle.std.proofs.lemmas.List.{drop_more, drop_all}
+use Rattle.lines.proofs.Both.{and_left, is_true}
 use Rattle.lines.specs.Numbers.{all_digits, value_after, Writes}
-
-is_true : (b : Bool) → T b → b ≡ true
-is_true true t = refl
-is_true false t = absurd t
-
-left : (a b : Bool) → T (a && b) → T a
-left true b p = tt
-left false b p = absurd p
 
 -- a number never falls as digits are added
 pub value_grows : (n : ℕ) (bs : List ℕ) → n ≤ value_after n bs
@@ -44,7 +37,7 @@ pub read_refused : (bs : List ℕ) (i n : ℕ) → i < length bs → Read bs i n
     (T (is_ascii_digit (get_or bs i 0)) → 2 ^ 32 ≤ n * 10 + (get_or bs i 0 - 48)) → (m : ℕ) → Writes bs m → 2 ^ 32 ≤ m
 read_refused bs i n h r none m w =
     let b = get_or bs i 0 in
-    let digit : T (is_ascii_digit b) = left (is_ascii_digit b) (all_digits (drop (i + 1) bs)) (subst T (r.all ∙ digits_next bs i h) w.all) in
+    let digit : T (is_ascii_digit b) = and_left (is_ascii_digit b) (all_digits (drop (i + 1) bs)) (subst T (r.all ∙ digits_next bs i h) w.all) in
     let large = none digit in
     let grows = value_grows (n * 10 + (b - 48)) (drop (i + 1) bs) in
     let same = value_next n bs i h in

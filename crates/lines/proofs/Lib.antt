@@ -1,3 +1,4 @@
+mod Both
 mod Digits
 mod Cuts
 mod Keeping

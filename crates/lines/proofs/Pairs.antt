@@ -1,20 +1,8 @@
 -- Bytes and their hexadecimal digits, two by two. Assumes nothing.
-use Rattle.std.proofs.Common.{◌≡◌, ℕ, ◌+◌, ◌-◌, ◌*◌, ◌/◌, ◌%◌, ◌<◌, ◌≤◌, Bool, true, false, cond, ◌&&◌, T, ltb, List, [], ◌∷◌, length, sym, refl, ap, ◌∙◌, ap₂, arith, ltb→lt, lt→ltb, Some, None, Option}
-use Rattle.std.proofs.lemmas.Bool.{cond-true, cond-false, ltb-true, ltb-false, lt-ltb, le-ltb}
+use Rattle.std.proofs.Common.{◌≡◌, ℕ, ◌+◌, ◌*◌, ◌/◌, ◌%◌, ◌<◌, ◌≤◌, T, ltb, List, [], ◌∷◌, length, sym, refl, ap, ◌∙◌, ap₂, arith, ltb→lt, lt→ltb, Some, None, Option}
 use Rattle.std.proofs.lemmas.Bool.Decides.{nat_tests}
+use Rattle.lines.proofs.Both.{and_left, and_right, both}
 use Rattle.lines.specs.Hex.{digit_of, character_of, paired, byte_of, before, decoded, hex_of, all_bytes, Spells}
-
-and_left : (a b : Bool) → T (a && b) → T a
-and_left true b p = tt
-and_left false b p = absurd p
-
-and_right : (a b : Bool) → T (a && b) → T b
-and_right true b p = p
-and_right false b p = absurd p
-
-both : (a b : Bool) → T a → T b → T (a && b)
-both true b p q = q
-both false b p q = absurd p
 
 hex-length : (bytes : List ℕ) → length (hex_of bytes) ≡ 2 * length bytes
 unfolding hex_of
@@ -24,45 +12,6 @@ hex-length (b ∷ bs) = let h = hex-length bs in omega arith
 -- digits that write some bytes are two or more, and not one over
 pub spelled_even : (digits more : List ℕ) → Spells digits more → (2 ≤ length digits) × (length digits % 2 ≡ 0)
 spelled_even digits more s = let e = ap length s.is in let h = hex-length more in let k = s.some in (omega arith, omega arith)
-
--- ---- digits write one list of bytes at most
-value_of : ℕ → ℕ
-value_of d = cond (ltb d 58) (d - 48) (d - 87)
-
-value_of_digit : (n : ℕ) → n < 16 → value_of (character_of n) ≡ n
-unfolding value_of
-value_of_digit n h = go (ltb n 10) refl
-  where
-    go : (t : Bool) → ltb n 10 ≡ t → cond (ltb (cond t (48 + n) (87 + n)) 58) (cond t (48 + n) (87 + n) - 48) (cond t (48 + n) (87 + n) - 87) ≡ n
-    go true e =
-        let low = ltb-true n 10 e in cond-true (ltb (48 + n) 58) (48 + n - 48) (48 + n - 87) (lt-ltb (48 + n) 58 (omega arith)) ∙ omega arith
-    go false e =
-        let high = ltb-false n 10 e in cond-false (ltb (87 + n) 58) (87 + n - 48) (87 + n - 87) (le-ltb (87 + n) 58 (omega arith)) ∙ omega arith
-
-digits_one : (m n : ℕ) → m < 16 → n < 16 → character_of m ≡ character_of n → m ≡ n
-digits_one m n hm hn e = sym (value_of_digit m hm) ∙ ap value_of e ∙ value_of_digit n hn
-
-bytes_one : (a b : ℕ) → a < 256 → b < 256 → character_of (a / 16) ≡ character_of (b / 16) → character_of (a % 16) ≡ character_of (b % 16) → a ≡ b
-bytes_one a b ha hb e f =
-    let high = digits_one (a / 16) (b / 16) (omega arith) (omega arith) e in
-    let low = digits_one (a % 16) (b % 16) (omega arith) (omega arith) f in
-    omega arith
-
-hex_one : (xs ys : List ℕ) → T (all_bytes xs) → T (all_bytes ys) → hex_of xs ≡ hex_of ys → xs ≡ ys
-unfolding hex_of all_bytes
-hex_one [] [] p q e = refl
-hex_one [] (y ∷ ys) p q e = let z : ◌≡◌ {A = ℕ} 0 1 = cc in absurd (omega arith)
-hex_one (x ∷ xs) [] p q e = let z : ◌≡◌ {A = ℕ} 0 1 = cc in absurd (omega arith)
-hex_one (x ∷ xs) (y ∷ ys) p q e =
-    let high : character_of (x / 16) ≡ character_of (y / 16) = cc in
-    let low : character_of (x % 16) ≡ character_of (y % 16) = cc in
-    let rest : hex_of xs ≡ hex_of ys = cc in
-    ap₂ (λ u v. u ∷ v)
-    (bytes_one x y (ltb→lt x 256 (and_left (ltb x 256) (all_bytes xs) p)) (ltb→lt y 256 (and_left (ltb y 256) (all_bytes ys) q)) high low)
-    (hex_one xs ys (and_right (ltb x 256) (all_bytes xs) p) (and_right (ltb y 256) (all_bytes ys) q) rest)
-
-pub spells_one : (digits xs ys : List ℕ) → Spells digits xs → Spells digits ys → xs ≡ ys
-spells_one digits xs ys s t = hex_one xs ys s.all t.all (s.is ∙ sym t.is)
 
 -- ---- what the digits write is what is decoded of them
 digit_back : (c n : ℕ) → digit_of c ≡ Some n → (n < 16) × (character_of n ≡ c)
@@ -84,6 +33,13 @@ hex_decoded (b ∷ bs) p =
 
 pub spelled_decoded : (digits bytes : List ℕ) → Spells digits bytes → decoded digits ≡ Some bytes
 spelled_decoded digits bytes s = ap decoded (sym s.is) ∙ hex_decoded bytes s.all
+
+-- digits write one list of bytes at most
+pub spells_one : (digits xs ys : List ℕ) → Spells digits xs → Spells digits ys → xs ≡ ys
+spells_one digits xs ys s t =
+    let one = spelled_decoded digits xs s in
+    let other = spelled_decoded digits ys t in
+    cc
 
 byte_read : (high low b : ℕ) → byte_of high low ≡ Some b → (b < 256) × (character_of (b / 16) ≡ high) × (character_of (b % 16) ≡ low)
 byte_read high low b e = go (digit_of high) (digit_of low) (digit_back high) (digit_back low) e

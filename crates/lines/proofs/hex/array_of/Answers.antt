@@ -1,16 +1,13 @@
 use Rattle.std.proofs.Common.{◌≡◌, ℕ, ◌+◌, ◌*◌, ◌<◌, ◌≤◌, List, length, take, Some, None, eqb, sym, ap, ◌∙◌, subst, arith}
 use Rattle.std.proofs.lemmas.Bool.{eq-eqb, cond-true}
-use Rattle.std.proofs.lemmas.List.{take_more_set, take_all, length-replicate, length-set}
+use Rattle.std.proofs.lemmas.List.{take_more_set, take_all, length-set}
 use Rattle.lines.specs.Hex.{decoded, array_of}
-use Rattle.lines.proofs.Decoding.{Decoding, decoding_none, decoding_more, decoding_stops, decoding_all}
+use Rattle.lines.proofs.Decoding.{Decoding, decoding_more, decoding_stops, decoding_all}
 use Rattle.lines.proofs.hex.array_of.Goals as goal
 
 -- exactly so many digits write what they write
 just : (n : ℕ) (digits : List ℕ) → length digits ≡ 2 * n → array_of n digits ≡ decoded digits
 just n digits e = cond-true (eqb (length digits) (2 * n)) (decoded digits) None (eq-eqb (length digits) (2 * n) e)
-
-pub loop-i-init : goal.loop-i-init
-loop-i-init g c = record { decoding = decoding_none c.in_ok-pairs.pairs.now; len = length-replicate g.row.N 0 }
 
 pub returns-in_err-bytes : goal.returns-in_err-bytes
 returns-in_err-bytes g c =

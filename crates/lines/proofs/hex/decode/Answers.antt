@@ -1,9 +1,6 @@
 use Rattle.std.proofs.Common.{◌+◌, List, ℕ, vec_items, sym, ◌∙◌, subst}
-use Rattle.lines.proofs.Decoding.{Decoding, decoding_none, decoding_more, decoding_stops, decoding_all}
+use Rattle.lines.proofs.Decoding.{Decoding, decoding_more, decoding_stops, decoding_all}
 use Rattle.lines.proofs.hex.decode.Goals as goal
-
-pub loop-high-init : goal.loop-high-init
-loop-high-init c = rw c.new-bytes.ensures.items (decoding_none c.in-Some.pairs.now)
 
 pub returns-in_default-byte : goal.returns-in_default-byte
 returns-in_default-byte c =

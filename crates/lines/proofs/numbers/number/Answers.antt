@@ -1,10 +1,7 @@
 use Rattle.std.proofs.Common.{◌<◌, length, sym, arith}
 use Rattle.std.proofs.lemmas.Bool.{eqb-false}
-use Rattle.lines.proofs.Digits.{read_none, read_more, read_refused, read_all}
+use Rattle.lines.proofs.Digits.{read_more, read_refused, read_all}
 use Rattle.lines.proofs.numbers.number.Goals as goal
-
-pub loop-byte-init : goal.loop-byte-init
-loop-byte-init c = read_none c.args.digits.now
 
 pub returns-in_err-value : goal.returns-in_err-value
 returns-in_err-value c =
