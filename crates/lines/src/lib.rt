@@ -6,4 +6,6 @@ mod chunks;
 pub mod hex;
 pub mod numbers;
 pub mod reader;
+#[cfg(test)]
+mod tests;
 pub mod words;

@@ -35,7 +35,7 @@ impl<R: Read> LineReader<R> {
         }
     }
 
-    /// The next line; none at the end of the input. A line that is too long to be held is read to its end.
+    /// The next line; none at the end of the input. A line that is too long to be held is read to its end. An error loses what was read of the line.
     pub fn next_line(&mut self) -> io::Result<Option<Result<&[u8], TooLong>>>
         ensures given { (rest : Option (List ℕ)) × GivesLine (to_come R.remaining self.old.input) rest result }
         ensures* after_borrow { sem 𝓛 (Rests (the_row R.row) self.entry (λ new.
