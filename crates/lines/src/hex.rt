@@ -1,4 +1,4 @@
-// Bytes in hexadecimal: two lower-case digits for each byte, the higher first.
+// Bytes in hexadecimal: two lower-case digits for each byte, the higher first. (The library's crate `hex` reads capital digits too, which no line may have.)
 ghost use Rattle.std.specs.Prelude.{◌≡◌, ℕ, ◌*◌, ◌<◌, ◌++◌, List, length, vec_items, IfOk, OnOk, Some, None, MatchOption};
 ghost use Rattle.std.specs.Option.{option_map};
 ghost use Rattle.lines.specs.Hex.{digit_of, Small, character_of, byte_of, decoded, pairs_decoded, array_of, hex_of, Spells};

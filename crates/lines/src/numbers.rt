@@ -16,6 +16,7 @@ fn with_digit(value: u32, byte: u8) -> Option<u32>
     value.checked_mul(BASE)?.checked_add(digit)
 }
 
+// The library's `parse` would take a plus sign in front.
 /// The number that is written by these digits, where there is one or more, nothing else, and the number fits.
 pub fn number(digits: &[u8]) -> Option<u32>
     ensures { elim result [

@@ -65,6 +65,7 @@ impl<R: Read> LineReader<R> {
             }
             self.line.push(byte)?;
         }
+        // Every loop ends, and no input lives to see this one's end.
         Err(io::Error::from(io::ErrorKind::FileTooLarge))
     }
 }
