@@ -271,8 +271,8 @@ fn round(a: State, constant: u64) -> State {
 /// All 24 rounds.
 pub fn permute(state: &mut State) {
     let mut a = *state;
-    for i in 0..ROUNDS {
-        let next = round(a, ROUND_CONSTANTS[i]);
+    for constant in ROUND_CONSTANTS {
+        let next = round(a, constant);
         a = next;
     }
     *state = a;
@@ -294,81 +294,33 @@ fn add_byte(state: &mut State, at: usize, byte: u8) {
 
 /// Adds bytes to the state's string from byte `at` on, one by one.
 fn add_singly(state: &mut State, at: usize, bytes: &[u8]) {
-    for i in 0..bytes.len() {
-        add_byte(state, at + i, bytes[i]);
+    for (i, byte) in bytes.iter().enumerate() {
+        add_byte(state, at + i, *byte);
     }
 }
 
 /// Adds whole lanes to the state's string, from lane `lane` on: eight bytes at once.
 fn add_lanes(state: &mut State, lane: usize, bytes: &[u8]) {
-    for i in 0..bytes.len() / LANE {
-        let at = LANE * i;
-        let word = u64::from_le_bytes([
-            bytes[at],
-            bytes[at + 1],
-            bytes[at + 2],
-            bytes[at + 3],
-            bytes[at + 4],
-            bytes[at + 5],
-            bytes[at + 6],
-            bytes[at + 7],
-        ]);
-        state[lane + i] ^= word;
+    let (words, _) = bytes.as_chunks::<LANE>();
+    for (i, word) in words.iter().enumerate() {
+        state[lane + i] ^= u64::from_le_bytes(*word);
     }
 }
 
 /// Adds bytes to the state's string from byte `at` on: whole lanes at once, and what stands before and after them singly.
 fn add_bytes(state: &mut State, at: usize, bytes: &[u8]) {
     let to_lane = (LANE - at % LANE) % LANE;
-    if bytes.len() <= to_lane {
-        add_singly(state, at, bytes);
-    } else {
-        let (head, rest) = bytes.split_at(to_lane);
-        let (lanes, tail) = rest.split_at(rest.len() / LANE * LANE);
-        let lane = (at + to_lane) / LANE;
-        add_singly(state, at, head);
-        add_lanes(state, lane, lanes);
-        add_singly(state, at + to_lane + lanes.len(), tail);
-    }
-}
-
-/// Feeds bytes to a sponge that has taken `at` bytes of its current block, and says how many it has taken then.
-fn absorb(state: &mut State, rate: usize, at: usize, bytes: &[u8]) -> usize {
-    let mut place = at;
-    let mut done = 0;
-    while rate - place <= bytes.len() - done {
-        let end = done + (rate - place);
-        add_bytes(state, place, &bytes[done..end]);
-        permute(state);
-        place = 0;
-        done = end;
-    }
-    add_bytes(state, place, &bytes[done..]);
-    place + (bytes.len() - done)
+    let (head, rest) = bytes.split_at(to_lane.min(bytes.len()));
+    let (lanes, tail) = rest.split_at(rest.len() - rest.len() % LANE);
+    let end = at + head.len();
+    add_singly(state, at, head);
+    add_lanes(state, end / LANE, lanes);
+    add_singly(state, end + lanes.len(), tail);
 }
 
 /// Byte `at` of the state's string.
 fn byte_of(state: &State, at: usize) -> u8 {
     ((state[at / LANE] >> (8 * (at % LANE))) & 0xff) as u8
-}
-
-/// Fills `out` with the first bytes of the state's string.
-fn copy_out(state: &State, out: &mut [u8]) {
-    for i in 0..out.len() {
-        out[i] = byte_of(state, i);
-    }
-}
-
-/// Fills `out` with the first bytes that a state gives, which was permuted after its last block.
-fn squeeze(state: &mut State, rate: usize, out: &mut [u8]) {
-    let mut done = 0;
-    while rate < out.len() - done {
-        let end = done + rate;
-        copy_out(state, &mut out[done..end]);
-        permute(state);
-        done = end;
-    }
-    copy_out(state, &mut out[done..]);
 }
 
 /// A sponge that was fed some bytes: the state, with the bytes of the current block added, and how many these are.
@@ -390,28 +342,86 @@ impl Sponge {
         }
     }
 
+    /// Feeds bytes for which the current block has room, and permutes the state once the block is full.
+    fn fill(&mut self, bytes: &[u8]) {
+        add_bytes(&mut self.state, self.at, bytes);
+        let at = self.at + bytes.len();
+        if at == self.rate {
+            permute(&mut self.state);
+            self.at = 0;
+        } else {
+            self.at = at;
+        }
+    }
+
     /// Feeds more bytes.
     pub fn update(&mut self, bytes: &[u8]) {
-        let at = absorb(&mut self.state, self.rate, self.at, bytes);
-        self.at = at;
+        let room = self.rate - self.at;
+        let (head, rest) = bytes.split_at(room.min(bytes.len()));
+        self.fill(head);
+        for block in rest.chunks(self.rate) {
+            self.fill(block);
+        }
+    }
+
+    /// Ends the message: its suffix and the padding fill the block.
+    fn close(&mut self) {
+        add_byte(&mut self.state, self.at, self.suffix);
+        add_byte(&mut self.state, self.rate - 1, LAST_BIT);
+    }
+
+    /// Fills `out` with the bytes that the state gives once it is permuted.
+    fn squeeze(&mut self, out: &mut [u8]) {
+        let mut at = self.rate;
+        for byte in out.iter_mut() {
+            if at == self.rate {
+                permute(&mut self.state);
+                at = 0;
+            }
+            *byte = byte_of(&self.state, at);
+            at += 1;
+        }
     }
 
     /// Ends the message, and fills `out` with the first bytes that the sponge gives for it.
-    pub fn finish(self, out: &mut [u8]) {
-        let mut state = self.state;
-        add_byte(&mut state, self.at, self.suffix);
-        add_byte(&mut state, self.rate - 1, LAST_BIT);
-        permute(&mut state);
-        squeeze(&mut state, self.rate, out);
+    pub fn finish(mut self, out: &mut [u8]) {
+        self.close();
+        self.squeeze(out);
     }
 }
 
-fn digest<const LENGTH: usize>(rate: usize, bytes: &[u8]) -> [u8; LENGTH] {
-    let mut sponge = Sponge::new(rate, SHA3_SUFFIX);
-    sponge.update(bytes);
-    let mut digest = [0; LENGTH];
-    sponge.finish(&mut digest);
-    digest
+/// A message that comes in pieces, and whose digest has `LENGTH` bytes. Twice as many bytes of the state are no part of a block.
+pub struct Hasher<const LENGTH: usize> {
+    sponge: Sponge,
+}
+
+impl<const LENGTH: usize> Hasher<LENGTH> {
+    /// A hasher that was fed nothing.
+    fn empty() -> Self {
+        Hasher {
+            sponge: Sponge::new(LANES * LANE - 2 * LENGTH, SHA3_SUFFIX),
+        }
+    }
+
+    /// Feeds more bytes.
+    pub fn update(&mut self, bytes: &[u8]) {
+        self.sponge.update(bytes);
+    }
+
+    /// The digest of what was fed.
+    pub fn finish(self) -> [u8; LENGTH] {
+        let Hasher { sponge } = self;
+        let mut digest = [0; LENGTH];
+        sponge.finish(&mut digest);
+        digest
+    }
+}
+
+/// The digest of a whole message.
+fn digest_of<const LENGTH: usize>(bytes: &[u8]) -> [u8; LENGTH] {
+    let mut hasher = Hasher::empty();
+    hasher.update(bytes);
+    hasher.finish()
 }
 
 /// SHA3-256 of `length` bytes at `bytes`, for C.
@@ -420,7 +430,7 @@ fn digest<const LENGTH: usize>(rate: usize, bytes: &[u8]) -> [u8; LENGTH] {
 /// `bytes` points to `length` bytes, and `out` to 32.
 #[unsafe(no_mangle)]
 pub unsafe extern "C" fn rust_sha3_256(bytes: *const u8, length: usize, out: *mut [u8; 32]) {
-    unsafe { *out = digest(136, core::slice::from_raw_parts(bytes, length)) }
+    unsafe { *out = digest_of(core::slice::from_raw_parts(bytes, length)) }
 }
 
 /// SHA3-512 of `length` bytes at `bytes`, for C.
@@ -429,5 +439,5 @@ pub unsafe extern "C" fn rust_sha3_256(bytes: *const u8, length: usize, out: *mu
 /// `bytes` points to `length` bytes, and `out` to 64.
 #[unsafe(no_mangle)]
 pub unsafe extern "C" fn rust_sha3_512(bytes: *const u8, length: usize, out: *mut [u8; 64]) {
-    unsafe { *out = digest(72, core::slice::from_raw_parts(bytes, length)) }
+    unsafe { *out = digest_of(core::slice::from_raw_parts(bytes, length)) }
 }
