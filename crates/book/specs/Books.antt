@@ -2,10 +2,10 @@
 use Rattle.std.specs.Prelude.{List}
 use Rattle.model.specs.Blocks.{Block}
 use Rattle.book.specs.declared.book.Book.{Book}
-use Rattle.book.specs.Memory.{Lent, lent, contents}
+use Rattle.book.specs.Memory.{Lent}
 
 abbrev pub blocks : Book → List Block
-blocks b = contents b.tables
+blocks b = b.tables.content
 
 abbrev pub memory : Book → Lent
-memory b = lent b.tables
+memory b = b.tables.lent

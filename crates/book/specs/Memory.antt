@@ -1,13 +1,8 @@
--- What the tables of a book hold in the memory that was lent to it, and how much that is. Assumes nothing.
-use Rattle.std.specs.Prelude.{◌≡◌, ℕ, ◌+◌, ◌*◌, ◌<◌, ◌≤◌, List, [], ◌∷◌, length, take}
+-- What a book's tables hold, how much memory was lent to them, and when one more block finds room. Assumes nothing.
+use Rattle.std.specs.Prelude.{◌≡◌, ℕ, ◌+◌, ◌*◌, ◌<◌, ◌≤◌, List, [], ◌∷◌, length}
 use Rattle.model.specs.Blocks.{Block, max_parents, max_load}
 use Rattle.book.specs.declared.entry.Entry.{Entry}
-use Rattle.book.specs.declared.tables.Tables.{Tables}
 use Rattle.book.specs.Content.{max_blocks, blocks_of, AllPlaced}
-
--- the blocks in the tables: the first so many entries count
-abbrev pub contents : Tables → List Block
-contents t = blocks_of (take t.count t.entries.now) t.parents.now t.loads.now
 
 -- how many blocks, parents and bytes the lent memory has room for
 pub record Lent : Type 0 where
@@ -18,8 +13,10 @@ pub record Lent : Type 0 where
 abbrev pub lent_by : List Entry → List ℕ → List ℕ → Lent
 lent_by entries parents loads = record { blocks = length entries; parents = length parents; bytes = length loads }
 
-abbrev pub lent : Tables → Lent
-lent t = lent_by t.entries.now t.parents.now t.loads.now
+-- the blocks in the tables, and the memory that is lent to them
+pub record Kept : Type 0 where
+  pub content : List Block
+  pub lent : Lent
 
 -- how many parents the blocks have together, and how many bytes they carry
 unfoldable pub parents_of_all : List Block → ℕ
@@ -35,18 +32,12 @@ abbrev pub HasRoom : Lent → List Block → ℕ → ℕ → Type 0
 HasRoom l blocks parents bytes =
     (length blocks < max_blocks) × (length blocks < l.blocks) × (parents_of_all blocks + parents ≤ l.parents) × (bytes_of_all blocks + bytes ≤ l.bytes)
 
--- a table is filled from its start: as far as the blocks need, within the table, and no farther than that many blocks may need
-abbrev pub Filled : ℕ → ℕ → ℕ → ℕ → Type 0
-Filled used needed room most = (used ≡ needed) × (used ≤ room) × (used ≤ most)
-
-abbrev pub Counted : Tables → Type 0
-Counted t = (t.count ≤ length t.entries.now) × (t.count ≤ max_blocks)
-
-abbrev pub ParentsFilled : Tables → Type 0
-ParentsFilled t = Filled t.parents_used (parents_of_all (contents t)) (length t.parents.now) (max_parents * t.count)
-
-abbrev pub LoadsFilled : Tables → Type 0
-LoadsFilled t = Filled t.loads_used (bytes_of_all (contents t)) (length t.loads.now) (max_load * t.count)
-
-abbrev pub EntriesPlaced : Tables → Type 0
-EntriesPlaced t = AllPlaced t.parents_used t.loads_used (take t.count t.entries.now)
+-- What always holds of the three tables: they have no more than a book may have, the tables of parents and of loads have what the blocks need,
+-- which is no more than that many blocks may need, and each entry's stretches lie in them.
+pub record Tabled (entries : List Entry) (parents loads : List ℕ) : Type 0 where
+  pub few : length entries ≤ max_blocks
+  pub parents_filled : length parents ≡ parents_of_all (blocks_of entries parents loads)
+  pub few_parents : length parents ≤ max_parents * length entries
+  pub loads_filled : length loads ≡ bytes_of_all (blocks_of entries parents loads)
+  pub short_loads : length loads ≤ max_load * length entries
+  pub placed : AllPlaced (length parents) (length loads) entries

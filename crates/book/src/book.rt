@@ -1,6 +1,5 @@
 // The book: tables in lent memory, and what always holds of them.
 ghost use Rattle.book.specs.Content.{OneName, Limited, ParentsBefore};
-ghost use Rattle.book.specs.Memory.{contents, Counted, ParentsFilled, LoadsFilled, EntriesPlaced};
 
 use crate::tables::Tables;
 
@@ -12,11 +11,7 @@ mod meeting;
 #[derive(Drop)]
 pub struct Book<'a> {
     tables: Tables<'a>,
-    ghost counted: { Counted tables },
-    ghost parents: { ParentsFilled tables },
-    ghost loads: { LoadsFilled tables },
-    ghost placed: { EntriesPlaced tables },
-    ghost apart: { OneName (contents tables) },
-    ghost limited: { Limited (contents tables) },
-    ghost earlier: { ParentsBefore (contents tables) },
+    ghost apart: { OneName tables.content },
+    ghost limited: { Limited tables.content },
+    ghost earlier: { ParentsBefore tables.content },
 }

@@ -5,6 +5,7 @@
 mod block;
 mod book;
 mod entry;
+mod lent;
 pub mod library;
 mod refusal;
 mod tables;

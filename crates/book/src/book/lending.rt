@@ -16,14 +16,7 @@ impl<'a> Book<'a> {
         ensures lent { memory result ≡ lent_by entries.old parents.old loads.old }
     {
         Book {
-            tables: Tables {
-                entries,
-                parents,
-                loads,
-                count: 0,
-                parents_used: 0,
-                loads_used: 0,
-            },
+            tables: Tables::new(entries, parents, loads),
         }
     }
 
@@ -31,7 +24,7 @@ impl<'a> Book<'a> {
     pub fn len(&self) -> u32
         ensures { result ≡ length (blocks self.now) }
     {
-        self.tables.count as u32
+        self.tables.len()
     }
 
     /// The blocks, for reading.
@@ -40,9 +33,9 @@ impl<'a> Book<'a> {
     {
         let tables = &self.tables;
         View {
-            entries: &tables.entries[0..tables.count],
-            parents: &*tables.parents,
-            loads: &*tables.loads,
+            entries: tables.entries.as_slice(),
+            parents: tables.parents.as_slice(),
+            loads: tables.loads.as_slice(),
         }
     }
 }
