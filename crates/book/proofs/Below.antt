@@ -1,18 +1,14 @@
--- Numbers that are all below a limit: what one more number, or the first, does to that. Assumes nothing.
-use Rattle.std.proofs.Common.{◌≡◌, ℕ, suc, ◌<◌, ◌≤◌, Bool, true, false, ◌&&◌, T, ltb, List, [], ◌∷◌, get_or, sym, refl, ap, ◌∙◌, subst}
-use Rattle.std.proofs.lemmas.Bool.{lt-ltb, le-ltb}
+-- Numbers that are all below a limit. Assumes nothing.
+use Rattle.std.proofs.Common.{◌≡◌, ℕ, suc, ◌<◌, Bool, true, ◌&&◌, ltb, List, [], ◌∷◌, get_or, refl, ap, ◌∙◌}
+use Rattle.std.proofs.lemmas.Bool.{lt-ltb}
 use Rattle.std.specs.List.{list_all}
 use Rattle.model.specs.Names.{all_below}
 
-pub first_below : (limit x : ℕ) (xs : List ℕ) → x < limit → all_below limit (x ∷ xs) ≡ all_below limit xs
+first_below : (limit x : ℕ) (xs : List ℕ) → x < limit → all_below limit (x ∷ xs) ≡ all_below limit xs
 unfolding all_below
 first_below limit x xs h = ap (λ (b : Bool). b && all_below limit xs) (lt-ltb x limit h)
 
-pub first_not_below : (limit x : ℕ) (xs : List ℕ) → limit ≤ x → all_below limit (x ∷ xs) ≡ false
-unfolding all_below
-first_not_below limit x xs h = ap (λ (b : Bool). b && all_below limit xs) (le-ltb x limit h)
-
-pub none_not_below : (limit : ℕ) → all_below limit [] ≡ true
+none_not_below : (limit : ℕ) → all_below limit [] ≡ true
 unfolding all_below
 none_not_below limit = refl
 
@@ -24,7 +20,3 @@ pub all_below_is : (limit : ℕ) (xs : List ℕ) → list_all (λ x. ltb x limit
 unfolding all_below
 all_below_is limit [] = refl
 all_below_is limit (x ∷ xs) = ap (λ (b : Bool). ltb x limit && b) (all_below_is limit xs)
-
--- what a test of the names answered, of a limit that has another name
-pub tested_below : (r : Bool) (limit same : ℕ) (xs : List ℕ) → r ≡ all_below limit xs → r ≡ true → limit ≡ same → T (all_below same xs)
-tested_below r limit same xs e t s = subst (λ (n : ℕ). T (all_below n xs)) s (subst T (sym t ∙ e) tt)

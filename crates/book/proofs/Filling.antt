@@ -66,7 +66,7 @@ blocks_more es ps ls k placed =
     ap (λ (x : List ℕ). blocks_of es ps ls ++ (block_of k.author k.round k.parents x ∷ [])) (stretch_added ls k.load)
 
 -- what holds of each element of a list, by its place, and of one more, holds of each with that one at the end
-pub each_more :
+each_more :
     {X : Type 0} (P : ℕ → X → Type 0) (xs : List X) (y d : X) → ((i : ℕ) → i < length xs → P i (get_or xs i d)) → P (length xs) y →
     (i : ℕ) → i < length (xs ++ y ∷ []) → P i (get_or (xs ++ y ∷ []) i d)
 each_more {X} P xs y d old new i h =

@@ -2,4 +2,3 @@ mod Blocks
 mod Finding
 mod Filling
 mod Below
-mod Growing

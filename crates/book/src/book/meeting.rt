@@ -37,7 +37,7 @@ impl Book<'_> {
     }
 }
 
-// whether a block may carry the load; bytes, as they are below 256
+// Whether a block may carry so long a load. That its bytes are bytes, below 256, is known of a slice that is passed alone, and not of one in a Block.
 fn is_short(load: &[u8]) -> bool
     ensures short { result ≡ nat_le (length load.now) max_load }
     ensures bytes { T (all_below byte_limit load.now) }
