@@ -1,9 +1,10 @@
 -- The bits of a number: each by the number's half, what setting one does to the bits and to their count, and that they pin the number.
 -- Assumes nothing.
-use Rattle.std.proofs.Common.{◌≡◌, ℕ, zero, suc, ◌+◌, ◌*◌, ◌/◌, ◌%◌, ◌^◌, ◌<◌, max, Bool, true, false, cond, ◌||◌, eqb, sym, refl, ap, ◌∙◌, subst, ap₂, pow-suc, div-one, add-one, one-add, arith, lit<, shr-shr, shr_lt}
+use Rattle.std.proofs.Common.{◌≡◌, ℕ, zero, suc, ◌+◌, ◌*◌, ◌/◌, ◌%◌, ◌^◌, ◌<◌, max, Bool, true, false, cond, ◌||◌, eqb, sym, refl, ap, ◌∙◌, subst, ap₂, pow-suc, add-one, arith, lit<, shr_lt}
 use lib.Bits.{bit_or, or_step, or_zero_r}
 use lib.Count.{ones, ones_step}
 use lib.Dec.{eqb-zero-suc, eqb-suc-zero, eqb-suc-suc}
+use Rattle.std.proofs.lemmas.Nat.Bits.{bit_at_lowest, bit_at-suc, bit_at-zero, bit_at-lt, same_from_bits}
 use Rattle.members.specs.Sets.{has_bit}
 
 -- the half and the last bit of a number that is made of them
@@ -19,11 +20,11 @@ below_two b = omega arith
 -- a number's first bit is its last digit, and its other bits are its half's
 pub first_bit : (b : ℕ) → has_bit zero b ≡ eqb (b % 2) 1
 unfolding has_bit
-first_bit b = ap (λ x. eqb (x % 2) 1) (div-one b)
+first_bit b = ap (λ x. eqb x 1) (bit_at_lowest b)
 
 pub later_bit : (i b : ℕ) → has_bit (suc i) b ≡ has_bit i (b / 2)
 unfolding has_bit
-later_bit i b = ap (λ x. eqb (x % 2) 1) (ap (λ k. b / 2 ^ k) (sym (one-add i)) ∙ sym (shr-shr b 1 i))
+later_bit i b = ap (λ x. eqb x 1) (bit_at-suc b i)
 
 first_of : (q r : ℕ) → r < 2 → has_bit zero (q * 2 + r) ≡ eqb r 1
 first_of q r h = first_bit (q * 2 + r) ∙ ap (λ x. eqb x 1) (last_of q r h)
@@ -79,8 +80,8 @@ set_ones (suc m) b =
 
 -- nought has no bit set
 pub no_bit : (i : ℕ) → has_bit i 0 ≡ false
-no_bit zero = first_bit 0
-no_bit (suc i) = later_bit i 0 ∙ no_bit i
+unfolding has_bit
+no_bit i = ap (λ x. eqb x 1) (bit_at-zero i)
 
 same_digit : (r s : ℕ) → r < 2 → s < 2 → eqb r 1 ≡ eqb s 1 → r ≡ s
 same_digit zero zero h k e = refl
@@ -95,10 +96,6 @@ pub half_lt : (k a : ℕ) → a < 2 ^ suc k → a / 2 < 2 ^ k
 half_lt k a h = shr_lt k 1 (subst (λ (x : ℕ). a < 2 ^ x) (sym (add-one k)) h)
 
 -- numbers with the same bits are the same
-pub bits_pin : (k a b : ℕ) → a < 2 ^ k → b < 2 ^ k → ((i : ℕ) → has_bit i a ≡ has_bit i b) → a ≡ b
-bits_pin zero a b h l same = omega arith
-bits_pin (suc k) a b h l same =
-    let halves : a / 2 ≡ b / 2 =
-    bits_pin k (a / 2) (b / 2) (half_lt k a h) (half_lt k b l) (λ i. sym (later_bit i a) ∙ same (suc i) ∙ later_bit i b) in
-    let lasts : a % 2 ≡ b % 2 = same_digit (a % 2) (b % 2) (below_two a) (below_two b) (sym (first_bit a) ∙ same zero ∙ first_bit b) in
-    omega arith
+pub bits_pin : (a b : ℕ) → ((i : ℕ) → has_bit i a ≡ has_bit i b) → a ≡ b
+unfolding has_bit
+bits_pin a b same = same_from_bits a b (λ i. same_digit _ _ (bit_at-lt a i) (bit_at-lt b i) (same i))

@@ -1,9 +1,10 @@
 -- That a set's number holds the lists that its calls say. Assumes nothing.
 use Rattle.std.proofs.Common.{◌≡◌, ℕ, zero, suc, ◌+◌, ◌*◌, ◌/◌, ◌%◌, ◌^◌, ◌<◌, ◌≤◌, false, cond, ◌&&◌, ◌||◌, T, eqb, ltb, ◌⊎◌, List, [], ◌∷◌, map, sym, refl, ap, ◌∙◌, subst, ap₂, inl, inr, ⊎_elim, one-mul, arith, ltb→lt, lt→ltb, shl_exact}
-use lib.Bits.{bit_or, bit_and, and_mask}
+use lib.Bits.{bit_or, bit_and}
 use lib.Count.{ones, ones_step}
 use lib.Dec.{eqb-zero-suc, eqb-suc-zero, eqb-suc-suc, leb-suc-suc}
 use Rattle.std.proofs.lemmas.Bool.{ne_eqb}
+use Rattle.std.proofs.lemmas.Nat.Bits.{shr_and_one}
 use Rattle.model.specs.Names.{is_in, different, all_below}
 use Rattle.model.proofs.Tools.{and_both, and_left, and_right}
 use Rattle.members.specs.Sets.{has_bit, limit, Holds, Adds, ListsPinSets}
@@ -30,7 +31,7 @@ shifted member small = shl_exact 1 member limit (omega arith) (omega arith) ∙ 
 -- what is read at a bit: whether the member is in
 pub read_bit : (member bits : ℕ) (xs : List ℕ) → Holds bits xs → eqb (bit_and (bits / 2 ^ member) 1) 1 ≡ is_in member xs
 unfolding has_bit
-read_bit member bits xs h = ap (λ x. eqb x 1) (and_mask (bits / 2 ^ member) 1) ∙ h.has member
+read_bit member bits xs h = ap (λ x. eqb x 1) (shr_and_one bits member) ∙ h.has member
 
 none_above : (n member : ℕ) (xs : List ℕ) → n ≤ member → T (all_below n xs) → is_in member xs ≡ false
 unfolding is_in all_below
@@ -117,5 +118,5 @@ listed (suc k) b h =
 pub lists_pin_sets : ListsPinSets
 lists_pin_sets = record {
   some_list = λ bits h. let l = listed limit bits h in (l.xs, record { below = l.below; has = l.has; count = l.count });
-  one_set = λ a b h k xs p q. bits_pin limit a b h k (λ i. p.has i ∙ sym (q.has i));
+  one_set = λ a b h k xs p q. bits_pin a b (λ i. p.has i ∙ sym (q.has i));
 }
