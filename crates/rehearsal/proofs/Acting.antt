@@ -1,47 +1,52 @@
 -- That a committee holds the world of the events, after each step of a member. Assumes nothing.
-use Rattle.std.proofs.Common.{◌≡◌, ℕ, ◌<◌, ◌≤◌, Bool, true, false, not, ◌&&◌, T, ltb, List, ◌∷◌, length, get_or, set, vec_items, sym, refl, ap, ◌∙◌, subst, ap₂, subst₂, arith, ltb→lt, lt→ltb}
+use Rattle.std.proofs.Common.{◌≡◌, ℕ, ◌<◌, ◌≤◌, Bool, true, false, cond, not, ◌&&◌, T, eqb, ltb, List, ◌∷◌, length, get_or, set, vec_items, is_ok, Ok, Err, Result, sym, refl, ap, ◌∙◌, subst, ap₂, subst₂, arith, ltb→lt, lt→ltb}
 use lib.Dec.{nleb→lt}
 use Rattle.std.proofs.lemmas.Bool.{lt-ltb}
-use Rattle.book.specs.declared.book.Book.{Book as TheBook}
 use Rattle.book.specs.Content.{book_of}
-use Rattle.members.specs.Sets.{Holds}
 use Rattle.model.specs.Thresholds.{members}
 use Rattle.model.specs.Blocks.{Block}
 use Rattle.model.specs.Member.{Member, new_member, signable, takable, makable, after_sign, after_take, after_make}
-use Rattle.model.specs.Seat.{full_signed, full_web, full_round, seat_limit}
+use Rattle.model.specs.Seat.{full_signed, full_web, full_round, seat_limit, answer, done}
 use Rattle.model.specs.World.{World, Event, Forges as forges, member_at, good, genuine, certified, world, with_member, with_signature, with_made}
 use Rattle.model.proofs.Tools.{and_left, and_both, cond-then}
 use Rattle.model.proofs.Thresholds.{members-fit}
 use Rattle.model.proofs.Worlds.{always_sound, changed}
+use Rattle.std.specs.Prelude.{IsErr}
+use Rattle.replica.specs.declared.seat.Denied.{Denied}
+use Rattle.replica.specs.declared.seat.Denied.TheVariants.{MayNot, NoRoom}
+use Rattle.replica.specs.Answers.{number_of}
+use Rattle.rehearsal.specs.declared.seats.Seats.{Seats}
+use Rattle.rehearsal.specs.declared.notes.Notes.{Notes}
 use Rattle.rehearsal.specs.declared.act.Act.{Act}
 use Rattle.rehearsal.specs.declared.act.Act.TheVariants.{Makes, Signs, Takes, Forges}
-use Rattle.rehearsal.specs.declared.committee.Committee.{Committee}
 use Rattle.rehearsal.specs.Books.{name_of, about_below}
-use Rattle.rehearsal.specs.Glossaries.{namings}
-use Rattle.rehearsal.specs.Seated.{Sit, Steps}
+use Rattle.rehearsal.specs.Seated.{Sit, StepsFrom}
 use Rattle.rehearsal.specs.Noted.{Noted}
 use Rattle.rehearsal.specs.Scenes.{Scene, is_bad, book_in, world_in, event_of, may_happen, with_event}
-use Rattle.rehearsal.specs.Played.{Plays, Acted}
+use Rattle.rehearsal.specs.Held.{Parts, HoldWorld}
 
 true_is : (a : Bool) → a ≡ true → T a
 true_is a e = subst T (sym e) tt
 
--- the parts of a committee that a step never touches
-pub record SameRest (c c' : Committee) : Type 0 where
-  pub faults : c'.faults ≡ c.faults
-  pub bad : c'.bad ≡ c.bad
-  pub words : c'.words ≡ c.words
+-- what a step may change
+abbrev pub with_step : Parts → Seats → Notes → Parts
+with_step c seats notes = record { faults = c.faults; book = c.book; bad = c.bad; seats = seats; notes = notes; words = c.words }
+
+-- what is said of a step that was done or not, and what the parts hold after it
+pub record ActedBy (s : Scene) (act : Act) (i x : ℕ) (said : Bool) (c : Parts) : Type 0 where
+  pub right : said ≡ may_happen s act i x
+  pub after : HoldWorld (cond said (with_event (event_of act i x) s) s) c
 
 -- seats that hold the same
-pub same-world : (s : Scene) (b : TheBook) (c c' : Committee) → Plays s b c → SameRest c c' → c'.notes ≡ c.notes → Sit (world_in s).all (vec_items c'.seats.seats) → Plays s b c'
-same-world s b c c' p r n sit = record {
-  faults = ap (λ k. k.f) r.faults ∙ p.faults;
-  bad = subst (λ k. Holds k.bits s.bad) (sym r.bad) p.bad;
+pub same-world : (s : Scene) (c : Parts) (seats : Seats) → HoldWorld s c → Sit (world_in s).all (vec_items seats.seats) → HoldWorld s (with_step c seats c.notes)
+same-world s c seats p sit = record {
+  faults = p.faults;
+  bad = p.bad;
   seats = sit;
   book = p.book;
-  notes = subst (λ k. Noted (world_in s).signatures (world_in s).made (vec_items k.notes)) (sym n) p.notes;
-  noted = ap (λ k. length (vec_items k.notes)) n ∙ p.noted;
-  words = ap namings r.words ∙ p.words;
+  notes = p.notes;
+  noted = p.noted;
+  words = p.words;
   few = p.few;
   room = p.room;
   about = p.about;
@@ -49,19 +54,19 @@ same-world s b c c' p r n sit = record {
 }
 
 -- one more event
-pub one_more : (s : Scene) (b : TheBook) (c c' : Committee) → Plays s b c → SameRest c c' → (e : Event) (w : World) → world s.faults (book_in s) (is_bad s) (e ∷ s.events) ≡ w →
-    name_of e < length s.blocks → Sit w.all (vec_items c'.seats.seats) → Noted w.signatures w.made (vec_items c'.notes.notes) →
-    length (vec_items c'.notes.notes) ≡ length (vec_items c.notes.notes) → ((i : ℕ) → length (member_at i w).web ≤ seat_limit) →
-    Plays (with_event e s) b c'
+pub one_more : (s : Scene) (c : Parts) (seats : Seats) (notes : Notes) → HoldWorld s c → (e : Event) (w : World) → world s.faults (book_in s) (is_bad s) (e ∷ s.events) ≡ w →
+    name_of e < length s.blocks → Sit w.all (vec_items seats.seats) → Noted w.signatures w.made (vec_items notes.notes) →
+    length (vec_items notes.notes) ≡ length (vec_items c.notes.notes) → ((i : ℕ) → length (member_at i w).web ≤ seat_limit) →
+    HoldWorld (with_event e s) (with_step c seats notes)
 unfolding about_below
-one_more s b c c' p r e w is there sit noted long room = record {
-  faults = ap (λ k. k.f) r.faults ∙ p.faults;
-  bad = subst (λ k. Holds k.bits s.bad) (sym r.bad) p.bad;
-  seats = subst (λ (v : World). Sit v.all (vec_items c'.seats.seats)) (sym is) sit;
+one_more s c seats notes p e w is there sit noted long room = record {
+  faults = p.faults;
+  bad = p.bad;
+  seats = subst (λ (v : World). Sit v.all (vec_items seats.seats)) (sym is) sit;
   book = p.book;
-  notes = subst (λ (v : World). Noted v.signatures v.made (vec_items c'.notes.notes)) (sym is) noted;
+  notes = subst (λ (v : World). Noted v.signatures v.made (vec_items notes.notes)) (sym is) noted;
   noted = long ∙ p.noted;
-  words = ap namings r.words ∙ p.words;
+  words = p.words;
   few = p.few;
   room = λ i. subst (λ (v : World). length (member_at i v).web ≤ seat_limit) (sym is) (room i);
   about = and_both (ltb (name_of e) (length s.blocks)) (about_below (length s.blocks) s.events) (lt→ltb (name_of e) (length s.blocks) there) p.about;
@@ -97,107 +102,135 @@ pub small_number : (f i : ℕ) (bad : ℕ → Bool) → f ≤ 4 → good f bad i
 small_number f i bad few g =
     let t = ltb→lt i (members f) (and_left (ltb i (members f)) (not (bad i)) (true_is (good f bad i) g)) in let h = members-fit f few in omega arith
 
--- A step of a good member of a scene that the committee plays. The seat read the book as a list of blocks, and was told how many may be bad.
-module _ (s : Scene) (b : TheBook) (c c' : Committee) (p : Plays s b c) (r : SameRest c c') (i x : ℕ) (g : good s.faults (is_bad s) i ≡ true) where
+-- a step was done if its answer has the number of that
+pub done_is : {A : Type 0} (r : Result A Denied) → is_ok r ≡ eqb (number_of r) done
+done_is (Ok x) = refl
+done_is (Err MayNot) = refl
+done_is (Err NoRoom) = refl
+
+-- a step that was denied, and what is answered then
+pub not_done : {A B E : Type 0} (r : Result A E) (q : Result B Denied) (denied : Denied) → IsErr r → q ≡ Err denied → (is_ok r ≡ false) × (false ≡ eqb (number_of q) done)
+not_done (Ok x) q denied told is = absurd (subst T (sym told) tt)
+not_done (Err e) q denied told is = (refl, sym (ap is_ok is) ∙ done_is q)
+
+answered : (may full : Bool) (given : ℕ) → given ≡ answer may full → eqb given done ≡ (may && not full)
+answered true true given e = ap (λ n. eqb n done) e
+answered true false given e = ap (λ n. eqb n done) e
+answered false full given e = ap (λ n. eqb n done) e
+
+-- A step of a good member of a scene whose world the parts hold. The seat read the book as a list of blocks.
+module _ (s : Scene) (c : Parts) (p : HoldWorld s c) (seats : Seats) (i x : ℕ) (g : good s.faults (is_bad s) i ≡ true) where
+  m : Member
+  m = member_at i (world_in s)
+
+  -- what the seat answered, where the member is good
+  so : (may full : Member → Bool) (next : Member → Member) (given : ℕ) (said : Bool) → said ≡ eqb given done → StepsFrom (world_in s).all i may full next given (vec_items seats.seats) →
+      said ≡ (good s.faults (is_bad s) i && (may m && not (full m)))
+  unfolding m
+  so may full next given said e st =
+      right_so (good s.faults (is_bad s) i) (ltb i (length (world_in s).all)) (may m) (full m) said g (has_seat s i g)
+      (e ∙ answered (ltb i (length (world_in s).all) && may m) (full m) given st.right)
+
+  after_step : (may full : Member → Bool) (next : Member → Member) (given : ℕ) (said : Bool) → said ≡ eqb given done → StepsFrom (world_in s).all i may full next given (vec_items seats.seats) →
+      Sit (cond said (set (world_in s).all i (next m)) (world_in s).all) (vec_items seats.seats)
+  unfolding m
+  after_step may full next given said e st =
+      subst (λ (t : Bool). Sit (cond t (set (world_in s).all i (next m)) (world_in s).all) (vec_items seats.seats)) (sym e) st.after
+
   -- whatever the step is: it is refused, and nothing changed
-  refused : (act : Act) (may full : Bool) (new : Member) → may_happen s act i x ≡ (good s.faults (is_bad s) i && (may && not full)) →
-      Steps (world_in s).all i may full new false (vec_items c'.seats.seats) → c'.notes ≡ c.notes → Acted s act i x false b c'
-  refused act may full new is st n = record {
-    right = right_so (good s.faults (is_bad s) i) (ltb i (length (world_in s).all)) may full false g (has_seat s i g) st.right ∙ sym is;
-    after = same-world s b c c' p r n st.after;
-  }
+  refused : (act : Act) (may full : Member → Bool) (next : Member → Member) (given : ℕ) → may_happen s act i x ≡ (good s.faults (is_bad s) i && (may m && not (full m))) →
+      (said : Bool) → (said ≡ false) × (false ≡ eqb given done) → StepsFrom (world_in s).all i may full next given (vec_items seats.seats) →
+      ActedBy s act i x said (with_step c seats c.notes)
+  refused act may full next given is said e st =
+      subst (λ (t : Bool). ActedBy s act i x t (with_step c seats c.notes)) (sym e.0)
+      (record {
+        right = so may full next given false e.1 st ∙ sym is;
+        after = same-world s c seats p (after_step may full next given false e.1 st);
+      })
 
   -- or it is done, and is the latest event
-  did : (act : Act) (may full : Bool) (new : Member) (w : World) → may_happen s act i x ≡ (good s.faults (is_bad s) i && (may && not full)) →
-      (T (good s.faults (is_bad s) i && may) → world s.faults (book_in s) (is_bad s) (event_of act i x ∷ s.events) ≡ w) →
-      name_of (event_of act i x) < length s.blocks → w.all ≡ set (world_in s).all i new →
-      Steps (world_in s).all i may full new true (vec_items c'.seats.seats) →
-      Noted w.signatures w.made (vec_items c'.notes.notes) → length (vec_items c'.notes.notes) ≡ length (vec_items c.notes.notes) →
-      (T (not full) → length new.web ≤ seat_limit) → Acted s act i x true b c'
-  did act may full new w is steps there all st noted long fits =
-      let right = right_so (good s.faults (is_bad s) i) (ltb i (length (world_in s).all)) may full true g (has_seat s i g) st.right in
+  did : (notes : Notes) (act : Act) (may full : Member → Bool) (next : Member → Member) (given : ℕ) (w : World) → may_happen s act i x ≡ (good s.faults (is_bad s) i && (may m && not (full m))) →
+      (T (good s.faults (is_bad s) i && may m) → world s.faults (book_in s) (is_bad s) (event_of act i x ∷ s.events) ≡ w) →
+      name_of (event_of act i x) < length s.blocks → w.all ≡ set (world_in s).all i (next m) →
+      true ≡ eqb given done → StepsFrom (world_in s).all i may full next given (vec_items seats.seats) →
+      Noted w.signatures w.made (vec_items notes.notes) → length (vec_items notes.notes) ≡ length (vec_items c.notes.notes) →
+      (T (not (full m)) → length (next m).web ≤ seat_limit) → ActedBy s act i x true (with_step c seats notes)
+  did notes act may full next given w is steps there all e st noted long fits =
+      let right = so may full next given true e st in
       record {
         right = right ∙ sym is;
         after =
-            one_more s b c c' p r (event_of act i x) w (steps (may_so (good s.faults (is_bad s) i) may full true right refl)) there
-            (subst (λ (ms : List Member). Sit ms (vec_items c'.seats.seats)) (sym all) st.after) noted long
+            one_more s c seats notes p (event_of act i x) w (steps (may_so (good s.faults (is_bad s) i) (may m) (full m) true right refl)) there
+            (subst (λ (ms : List Member). Sit ms (vec_items seats.seats)) (sym all) (after_step may full next given true e st)) noted long
             (λ j. subst (λ (ms : List Member). length (get_or ms j new_member).web ≤ seat_limit) (sym all)
-            (changed (λ k m. length m.web ≤ seat_limit) i new (world_in s) (fits (room_so (good s.faults (is_bad s) i) may full true right refl)) p.room j));
+            (changed (λ k n. length n.web ≤ seat_limit) i (next m) (world_in s) (fits (room_so (good s.faults (is_bad s) i) (may m) (full m) true right refl)) p.room j));
       }
 
-  module _ (f : ℕ) (ef : f ≡ s.faults) (l : List Block) (el : l ≡ s.blocks) where
-    abbrev pub MakeSteps : ℕ → List Block → Bool → Type 0
-    MakeSteps h k said =
-        let m = member_at i (world_in s) in
-        Steps (world_in s).all i (makable h (book_of k) i x m) (full_round m) (after_make m) said (vec_items c'.seats.seats)
+  module _ (l : List Block) (el : l ≡ s.blocks) (given : ℕ) where
+    abbrev pub MakeSteps : ℕ → List Block → Type 0
+    MakeSteps f k = StepsFrom (world_in s).all i (makable f (book_of k) i x) full_round after_make given (vec_items seats.seats)
 
-    pub makes-refused : MakeSteps f l false → c'.notes ≡ c.notes → Acted s Makes i x false b c'
-    makes-refused st n = refused Makes _ _ _ refl (subst₂ (λ h k. MakeSteps h k false) ef el st) n
+    make_steps : MakeSteps c.faults.f l → MakeSteps s.faults s.blocks
+    make_steps st = subst₂ MakeSteps p.faults el st
 
-    pub makes-done : MakeSteps f l true → x < length s.blocks → Noted (world_in s).signatures (x ∷ (world_in s).made) (vec_items c'.notes.notes) →
-        length (vec_items c'.notes.notes) ≡ length (vec_items c.notes.notes) → Acted s Makes i x true b c'
-    unfolding world
-    makes-done st there noted long =
-        let m = member_at i (world_in s) in
-        did Makes _ _ _ (with_made x (with_member i (after_make m) (world_in s))) refl
+    pub makes-refused : (said : Bool) → (said ≡ false) × (false ≡ eqb given done) → MakeSteps c.faults.f l → ActedBy s Makes i x said (with_step c seats c.notes)
+    unfolding m
+    makes-refused said e st = refused Makes _ _ _ given refl said e (make_steps st)
+
+    pub makes-done : (notes : Notes) → true ≡ eqb given done → MakeSteps c.faults.f l → x < length s.blocks → Noted (world_in s).signatures (x ∷ (world_in s).made) (vec_items notes.notes) →
+        length (vec_items notes.notes) ≡ length (vec_items c.notes.notes) → ActedBy s Makes i x true (with_step c seats notes)
+    unfolding world m
+    makes-done notes e st there noted long =
+        did notes Makes _ _ _ given (with_made x (with_member i (after_make m) (world_in s))) refl
         (λ t. cond-then (good s.faults (is_bad s) i && makable s.faults (book_in s) i x m) _ _ t) there refl
-        (subst₂ (λ h k. MakeSteps h k true) ef el st) noted long (λ _. p.room i)
+        e (make_steps st) noted long (λ _. p.room i)
 
-    abbrev pub SignSteps : ℕ → List Block → Bool → Bool → Type 0
-    SignSteps h k sure said =
-        let m = member_at i (world_in s) in
-        Steps (world_in s).all i (signable h (book_of k) sure x m) (full_signed m) (after_sign x m) said (vec_items c'.seats.seats)
+    abbrev pub SignSteps : ℕ → List Block → Bool → Type 0
+    SignSteps f k sure = StepsFrom (world_in s).all i (signable f (book_of k) sure x) full_signed (after_sign x) given (vec_items seats.seats)
 
-    sign-steps : (sure said : Bool) → sure ≡ genuine (book_in s) (is_bad s) x (world_in s) → SignSteps f l sure said →
-        SignSteps s.faults s.blocks (genuine (book_in s) (is_bad s) x (world_in s)) said
-    sign-steps sure said es st =
-        subst (λ t. SignSteps s.faults s.blocks t said) es (subst₂ (λ h k. SignSteps h k sure said) ef el st)
+    sign-steps : (sure : Bool) → sure ≡ genuine (book_in s) (is_bad s) x (world_in s) → SignSteps c.faults.f l sure →
+        SignSteps s.faults s.blocks (genuine (book_in s) (is_bad s) x (world_in s))
+    sign-steps sure es st =
+        subst (λ t. SignSteps s.faults s.blocks t) es (subst₂ (λ f k. SignSteps f k sure) p.faults el st)
 
-    pub signs-refused : (sure : Bool) → sure ≡ genuine (book_in s) (is_bad s) x (world_in s) → SignSteps f l sure false → c'.notes ≡ c.notes →
-        Acted s Signs i x false b c'
-    signs-refused sure es st n = refused Signs _ _ _ refl (sign-steps sure false es st) n
+    pub signs-refused : (sure : Bool) → sure ≡ genuine (book_in s) (is_bad s) x (world_in s) → (said : Bool) → (said ≡ false) × (false ≡ eqb given done) → SignSteps c.faults.f l sure →
+        ActedBy s Signs i x said (with_step c seats c.notes)
+    unfolding m
+    signs-refused sure es said e st = refused Signs _ _ _ given refl said e (sign-steps sure es st)
 
-    pub signs-done : (sure : Bool) → sure ≡ genuine (book_in s) (is_bad s) x (world_in s) → SignSteps f l sure true → x < length s.blocks →
-        (n y : ℕ) → n ≡ i → y ≡ x → Noted (record { who = n; name = y } ∷ (world_in s).signatures) (world_in s).made (vec_items c'.notes.notes) →
-        length (vec_items c'.notes.notes) ≡ length (vec_items c.notes.notes) → Acted s Signs i x true b c'
-    unfolding world
-    signs-done sure es st there n y en ey noted long =
-        let m = member_at i (world_in s) in
-        did Signs _ _ _ (with_signature i x (with_member i (after_sign x m) (world_in s))) refl
+    pub signs-done : (notes : Notes) (sure : Bool) → sure ≡ genuine (book_in s) (is_bad s) x (world_in s) → true ≡ eqb given done → SignSteps c.faults.f l sure → x < length s.blocks →
+        (n y : ℕ) → n ≡ i → y ≡ x → Noted (record { who = n; name = y } ∷ (world_in s).signatures) (world_in s).made (vec_items notes.notes) →
+        length (vec_items notes.notes) ≡ length (vec_items c.notes.notes) → ActedBy s Signs i x true (with_step c seats notes)
+    unfolding world m
+    signs-done notes sure es e st there n y en ey noted long =
+        did notes Signs _ _ _ given (with_signature i x (with_member i (after_sign x m) (world_in s))) refl
         (λ t. cond-then (good s.faults (is_bad s) i && signable s.faults (book_in s) (genuine (book_in s) (is_bad s) x (world_in s)) x m) _ _ t) there refl
-        (sign-steps sure true es st)
-        (subst₂ (λ (j k : ℕ). Noted (record { who = j; name = k } ∷ (world_in s).signatures) (world_in s).made (vec_items c'.notes.notes)) en ey noted) long (λ _. p.room i)
+        e (sign-steps sure es st)
+        (subst₂ (λ (j k : ℕ). Noted (record { who = j; name = k } ∷ (world_in s).signatures) (world_in s).made (vec_items notes.notes)) en ey noted) long (λ _. p.room i)
 
-  module _ (l : List Block) (el : l ≡ s.blocks) where
-    abbrev pub TakeSteps : List Block → Bool → Bool → Type 0
-    TakeSteps k sure said =
-        let m = member_at i (world_in s) in
-        Steps (world_in s).all i (takable (book_of k) sure x m) (full_web m) (after_take x m) said (vec_items c'.seats.seats)
+    abbrev pub TakeSteps : List Block → Bool → Type 0
+    TakeSteps k sure = StepsFrom (world_in s).all i (takable (book_of k) sure x) full_web (after_take x) given (vec_items seats.seats)
 
-    take_steps : (sure said : Bool) → sure ≡ certified s.faults x (world_in s) → TakeSteps l sure said → TakeSteps s.blocks (certified s.faults x (world_in s)) said
-    take_steps sure said es st = subst₂ (λ k t. TakeSteps k t said) el es st
+    take_steps : (sure : Bool) → sure ≡ certified s.faults x (world_in s) → TakeSteps l sure → TakeSteps s.blocks (certified s.faults x (world_in s))
+    take_steps sure es st = subst₂ (λ k t. TakeSteps k t) el es st
 
-    pub takes-so : (sure said : Bool) → sure ≡ certified s.faults x (world_in s) → TakeSteps l sure said → x < length s.blocks → c'.notes ≡ c.notes →
-        Acted s Takes i x said b c'
-    unfolding world
-    takes-so sure true es st there n =
-        let m = member_at i (world_in s) in
-        did Takes _ _ _ (with_member i (after_take x m) (world_in s)) refl
+    pub takes-so : (sure : Bool) → sure ≡ certified s.faults x (world_in s) → (said : Bool) → said ≡ eqb given done → TakeSteps l sure → x < length s.blocks →
+        ActedBy s Takes i x said (with_step c seats c.notes)
+    unfolding world m
+    takes-so sure es true e st there =
+        did c.notes Takes _ _ _ given (with_member i (after_take x m) (world_in s)) refl
         (λ t. cond-then (good s.faults (is_bad s) i && takable (book_in s) (certified s.faults x (world_in s)) x m) _ _ t) there refl
-        (take_steps sure true es st) (subst (λ k. Noted (world_in s).signatures (world_in s).made (vec_items k.notes)) (sym n) p.notes)
-        (ap (λ k. length (vec_items k.notes)) n) (not_full m x)
-    takes-so sure false es st there n = refused Takes _ _ _ refl (take_steps sure false es st) n
+        e (take_steps sure es st) p.notes refl (not_full m x)
+    takes-so sure es false e st there = refused Takes _ _ _ given refl false (refl, e) (take_steps sure es st)
 
 -- a bad member signs what it likes
-pub forges_done : (s : Scene) (b : TheBook) (c c' : Committee) → Plays s b c → SameRest c c' → (i x : ℕ) → x < length s.blocks → ltb i (members s.faults) ≡ true →
-    is_bad s i ≡ true → c'.seats ≡ c.seats →
-    Noted (record { who = i; name = x } ∷ (world_in s).signatures) (world_in s).made (vec_items c'.notes.notes) →
-    length (vec_items c'.notes.notes) ≡ length (vec_items c.notes.notes) → Acted s Forges i x true b c'
+pub forges_done : (s : Scene) (c : Parts) (notes : Notes) → HoldWorld s c → (i x : ℕ) → x < length s.blocks → ltb i (members s.faults) ≡ true → is_bad s i ≡ true →
+    Noted (record { who = i; name = x } ∷ (world_in s).signatures) (world_in s).made (vec_items notes.notes) →
+    length (vec_items notes.notes) ≡ length (vec_items c.notes.notes) → ActedBy s Forges i x true (with_step c c.seats notes)
 unfolding world
-forges_done s b c c' p r i x there member bad seats noted long = record {
+forges_done s c notes p i x there member bad noted long = record {
   right = sym (ap₂ (λ t u. t && u) member bad);
   after =
-      one_more s b c c' p r (forges i x) (with_signature i x (world_in s))
-      (cond-then (ltb i (members s.faults) && is_bad s i) _ _ (true_is _ (ap₂ (λ t u. t && u) member bad))) there
-      (subst (λ k. Sit (world_in s).all (vec_items k.seats)) (sym seats) p.seats) noted long p.room;
+      one_more s c c.seats notes p (forges i x) (with_signature i x (world_in s))
+      (cond-then (ltb i (members s.faults) && is_bad s i) _ _ (true_is _ (ap₂ (λ t u. t && u) member bad))) there p.seats noted long p.room;
 }

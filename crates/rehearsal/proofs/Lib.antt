@@ -5,6 +5,4 @@ mod Wording
 mod Acting
 mod Setting
 mod Reading
-mod Parsing
 mod Introducing
-mod Responding

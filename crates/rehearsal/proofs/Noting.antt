@@ -1,8 +1,8 @@
 -- That the notes have what happened to each block, as it happens. Assumes nothing.
-use Rattle.std.proofs.Common.{◌≡◌, ℕ, ◌<◌, ◌≤◌, true, ◌||◌, eqb, List, [], ◌∷◌, ◌++◌, length, get_or, set, Ok, Err, Result, sym, ap, ◌∙◌, subst, ⊎_elim, arith}
+use Rattle.std.proofs.Common.{◌≡◌, ℕ, ◌<◌, ◌≤◌, true, ◌||◌, eqb, List, ◌∷◌, length, get_or, set, Ok, Err, Result, sym, ap, ◌∙◌, subst, ⊎_elim, arith}
 use lib.Dec.{eqb_refl}
-use Rattle.std.proofs.lemmas.List.{get_or-set_same, get_or-set_other, get_or_default, get_or_past, get_or_push, get_or_append_left, length_push}
-use Rattle.std.proofs.lemmas.Bool.{cases_eq, cases_lt}
+use Rattle.std.proofs.lemmas.List.{get_or-set_same, get_or-set_other, get_or_default}
+use Rattle.std.proofs.lemmas.Bool.{cases_eq}
 use Rattle.members.specs.declared.MemberSet.{MemberSet}
 use Rattle.members.specs.declared.NumberTooLarge.{NumberTooLarge}
 use Rattle.members.specs.Sets.{Holds, Adds}
@@ -43,16 +43,6 @@ module _ (ss : List Signature) (made : List ℕ) (notes : List Note) (i : ℕ) (
         (λ x ne. subst (Holds (get_or notes x no_note).signers.bits) (sym (cond-else (eqb x i) (who ∷ signers x ss) (signers x ss) (not_eqb x i ne))) (noted.signed x));
     made = at_each (λ x n. n.made ≡ is_in x made) notes i new h (same ∙ ap (λ (n : Note). n.made) old_is ∙ noted.made i) (λ x ne. noted.made x);
   }
-
--- a new block's note changes nothing
-pub note_push : (notes all : List Note) (new : Note) → new ≡ no_note → all ≡ notes ++ (new ∷ []) → (x : ℕ) → get_or all x no_note ≡ get_or notes x no_note
-note_push notes all new none e x =
-    ap (λ l. get_or l x no_note) (e ∙ ap (λ n. notes ++ (n ∷ [])) none)
-    ∙ ⊎_elim (λ lt. get_or_append_left notes (no_note ∷ []) no_note x lt)
-    (λ ge. ⊎_elim (λ eq. get_or_push notes no_note no_note x (sym eq) ∙ sym (get_or_past notes x no_note ge))
-    (λ ne.
-    let long = length_push notes no_note in
-    get_or_past (notes ++ (no_note ∷ [])) x no_note (omega arith) ∙ sym (get_or_past notes x no_note ge)) (cases_eq x (length notes))) (cases_lt x (length notes))
 
 -- a member of a small number finds its place in a set
 pub inserted : (member : ℕ) (old new : MemberSet) (r : Result (Unit {0}) NumberTooLarge) → member < 64 →

@@ -1,9 +1,10 @@
 -- That what a member's seat is asked for is there, and that what it reads off its web has the main promise. Assumes nothing.
-use Rattle.std.proofs.Common.{◌≡◌, ℕ, zero, suc, ◌-◌, ◌<◌, ◌≤◌, min, Bool, true, false, not, ◌&&◌, T, ltb, ◌⊎◌, List, [], ◌∷◌, ◌++◌, length, get_or, take, Some, None, vec_items, sym, refl, ap, ◌∙◌, subst, ap₂, subst₂, ⊎_elim, arith, ltb→lt, T_not}
-use Rattle.std.proofs.lemmas.List.{map-id, get_or_append_left, length-append, get_or-map, take_all}
-use Rattle.std.proofs.lemmas.Bool.{cases_lt}
+use Rattle.std.proofs.Common.{◌≡◌, ℕ, zero, suc, ◌<◌, ◌≤◌, Bool, true, false, not, ◌&&◌, T, ltb, ◌⊎◌, List, [], ◌∷◌, ◌++◌, length, get_or, take, Some, vec_items, sym, refl, ap, ◌∙◌, subst, ap₂, subst₂, ⊎_elim, arith, ltb→lt, T_not}
+use Rattle.std.proofs.lemmas.List.{map-id, get_or_append_left, length-append, get_or-map}
+use Rattle.std.proofs.Math.Logic.{∥∥₁_elim}
+use Rattle.std.proofs.Math.Dec.{T_prop}
+use Rattle.std.specs.Coded.{le_prop}
 use Rattle.replica.specs.declared.replica.Replica.{Replica}
-use Rattle.book.specs.declared.book.Book.{Book as TheBook}
 use Rattle.book.specs.Content.{book_of, ParentsBefore, empty_block}
 use Rattle.model.specs.Names.{is_in, distinct, different, all_below}
 use Rattle.model.specs.Thresholds.{members, Few}
@@ -11,8 +12,9 @@ use Rattle.model.specs.Blocks.{Block, Book, valid}
 use Rattle.model.specs.Order.{order}
 use Rattle.model.specs.Member.{Member, new_member, rival}
 use Rattle.model.specs.Seat.{fit, padded, seat_limit}
-use Rattle.model.specs.World.{World, Event, member_at, good, world, web_of, order_of}
+use Rattle.model.specs.World.{World, Event, member_at, good, web_of, order_of}
 use Rattle.model.specs.Promise.{Begins}
+use Rattle.model.specs.Reading.{Readable}
 use Rattle.model.proofs.Tools.{and_left, and_right, and_both, decided}
 use Rattle.model.proofs.Lists.{In, in_here, in_there, distinct_tail, all_in_lem, in_below, different_within, distinct-different, different≤length}
 use Rattle.model.proofs.Counting.{count_bad, count≤different}
@@ -20,11 +22,10 @@ use Rattle.model.proofs.InOrder.{order_in_web, order-distinct}
 use Rattle.model.proofs.Worlds.{always_sound, rival_is, web_sound}
 use Rattle.model.proofs.Safety.{webs_whole, orders_agree, orders_grow, nothing_twice, nothing_forged}
 use Rattle.model.proofs.Renaming.{names_dont_matter}
-use Rattle.rehearsal.specs.declared.committee.Committee.{Committee}
 use Rattle.rehearsal.specs.Books.{about_below}
-use Rattle.rehearsal.specs.Seated.{member_of, Readable}
+use Rattle.replica.specs.Held.{held as member_of}
 use Rattle.rehearsal.specs.Scenes.{Scene, is_bad, book_in, world_in}
-use Rattle.rehearsal.specs.Played.{Plays}
+use Rattle.rehearsal.specs.Held.{Parts, HoldWorld}
 use Rattle.rehearsal.specs.Ordering.{order_in, Earlier, Promised, OrderIs}
 use Rattle.rehearsal.proofs.Growing.{world_same, names_below}
 use Rattle.rehearsal.proofs.Setting.{same_below}
@@ -46,6 +47,15 @@ fit_of f b (x ∷ xs) all once alone =
     clash : T (rival b x xs) → ⊥
     clash r = let k = rival_is b x xs r in k.2 (alone x k.0 (in_here x xs) (in_there k.0 x xs k.1) k.3 k.4)
 
+-- what is known of a scene that there is, if it is that a web can be read
+pub readable_some : {A : Type 0} (f : ℕ) (b : Book) (xs : List ℕ) → ∥ A ∥₁ → (A → Readable f b xs) → Readable f b xs
+readable_some f b xs there so = record {
+  whole = ∥∥₁_elim there (T_prop _) (λ a. (so a).whole);
+  once = ∥∥₁_elim there (T_prop _) (λ a. (so a).once);
+  fits = ∥∥₁_elim there (T_prop _) (λ a. (so a).fits);
+  room = ∥∥₁_elim there le_prop (λ a. (so a).room);
+}
+
 -- a list at the front of enough places can be read again
 pub front_of_padded : (n : ℕ) (xs : List ℕ) → length xs ≤ n → take (length xs) (padded n xs) ≡ xs
 unfolding padded
@@ -54,7 +64,7 @@ front_of_padded zero (x ∷ xs) h = absurd (omega arith)
 front_of_padded (suc n) (x ∷ xs) h = ap (λ l. x ∷ l) (front_of_padded n xs (omega arith))
 
 module _ (f : ℕ) (b : Book) (bad : ℕ → Bool) (few : Few f bad) (es : List Event) (i : ℕ) (g : T (good f bad i)) where
-  pub web_readable : length (web_of f b bad i es) ≤ seat_limit → Readable f b (member_at i (world f b bad es))
+  pub web_readable : length (web_of f b bad i es) ≤ seat_limit → Readable f b (web_of f b bad i es)
   web_readable room =
       let whole = webs_whole f b bad few es i g in
       let sound = web_sound f b bad few es i g in
@@ -102,11 +112,11 @@ front_before ks more before i h =
     subst (λ (k : Block). T (all_below i k.parents)) (get_or_append_left ks more empty_block i h) (before i (omega (arith, length-append ks more)))
 
 -- what a committee's good member reads has all that is promised
-module _ (s : Scene) (b : TheBook) (c : Committee) (p : Plays s b c) where
+module _ (s : Scene) (c : Parts) (p : HoldWorld s c) where
   few : Few s.faults (is_bad s)
   few = few_bad s.faults s.bad p.few
 
-  pub readable : (i : ℕ) → T (good s.faults (is_bad s) i) → Readable s.faults (book_in s) (member_at i (world_in s))
+  pub readable : (i : ℕ) → T (good s.faults (is_bad s) i) → Readable s.faults (book_in s) (member_at i (world_in s)).web
   readable i g = web_readable s.faults (book_in s) (is_bad s) few s.events i g (p.room i)
 
   pub order_fits : (i : ℕ) → T (good s.faults (is_bad s) i) → length (order_in s i) ≤ seat_limit
@@ -116,7 +126,7 @@ module _ (s : Scene) (b : TheBook) (c : Committee) (p : Plays s b c) where
   earlier : (i : ℕ) → T (good s.faults (is_bad s) i) → (t : Scene) → Earlier t s → Begins (order_in t i) (order_in s i)
   earlier i g t e =
       let before : ParentsBefore t.blocks =
-      front_before t.blocks e.more (subst ParentsBefore (p.book ∙ sym e.blocks) b.earlier) in
+      front_before t.blocks e.more (subst ParentsBefore (p.book ∙ sym e.blocks) c.book.earlier) in
       let here : Begins (order_of s.faults (book_of t.blocks) (is_bad s) i t.events) (order_of s.faults (book_of (t.blocks ++ e.more)) (is_bad s) i (e.next ++ t.events)) =
       earlier_begins s.faults (is_bad s) few t.blocks e.more before t.events e.about i g e.next in
       let now : Begins (order_of s.faults (book_of t.blocks) (is_bad s) i t.events) (order_in s i) =
@@ -134,21 +144,7 @@ module _ (s : Scene) (b : TheBook) (c : Committee) (p : Plays s b c) where
     forged = λ x h. nothing_forged s.faults (book_in s) (is_bad s) few s.events i g x (subst (λ (xs : List ℕ). T (is_in x xs)) is h);
   }
 
-  -- the three answers
-  pub order_nobody : (i : ℕ) → ltb i (members s.faults) ≡ false → OrderIs s i None
-  order_nobody i out = record {
-    nobody = λ _. refl;
-    bad_empty = λ t. absurd (subst T (sym t ∙ out) tt);
-    promised = λ g. absurd (subst T out (and_left (ltb i (members s.faults)) (not (is_bad s i)) g));
-  }
-
-  pub order_bad : (i : ℕ) (names : List ℕ) → names ≡ [] → ltb i (members s.faults) ≡ true → is_bad s i ≡ true → OrderIs s i (Some names)
-  order_bad i names none member bad = record {
-    nobody = λ t. absurd (subst T (sym member ∙ t) tt);
-    bad_empty = λ _ _. ap Some none;
-    promised = λ g. absurd (T_not (is_bad s i) (and_right (ltb i (members s.faults)) (not (is_bad s i)) g) (subst T (sym bad) tt));
-  }
-
+  -- what a good member's answer says
   pub order-good : (i : ℕ) (names : List ℕ) → T (good s.faults (is_bad s) i) → names ≡ order_in s i → OrderIs s i (Some names)
   order-good i names g is = record {
     nobody = λ t. absurd (subst T t (and_left (ltb i (members s.faults)) (not (is_bad s i)) g));
@@ -160,22 +156,22 @@ module _ (s : Scene) (b : TheBook) (c : Committee) (p : Plays s b c) where
   good_so i member fine =
       and_both (ltb i (members s.faults)) (not (is_bad s i)) (subst T member tt) (subst (λ (t : Bool). T (not t)) fine tt)
 
-  module _ (f : ℕ) (ef : f ≡ s.faults) (ks : List Block) (ek : ks ≡ s.blocks) (i : ℕ) (g : T (good s.faults (is_bad s) i)) where
+  module _ (ks : List Block) (ek : ks ≡ s.blocks) (i : ℕ) (g : T (good s.faults (is_bad s) i)) where
     -- the seat may be asked for its order
-    pub readable-seat : (d : Replica) → i < length (vec_items c.seats.seats) → Readable f (book_of ks) (member_of (get_or (vec_items c.seats.seats) i d))
+    pub readable-seat : (d : Replica) → i < length (vec_items c.seats.seats) → Readable c.faults.f (book_of ks) (member_of (get_or (vec_items c.seats.seats) i d)).web
     readable-seat d h =
         let seats = vec_items c.seats.seats in
         let held : member_of (get_or seats i d) ≡ member_at i (world_in s) =
         sym (get_or-map member_of seats i d new_member h) ∙ ap (λ (l : List Member). get_or l i new_member) p.seats.hold in
-        subst (λ (m : Member). Readable f (book_of ks) m) (sym held)
-        (subst₂ (λ (n : ℕ) (l : List Block). Readable n (book_of l) (member_at i (world_in s))) (sym ef) (sym ek) (readable i g))
+        subst (λ (m : Member). Readable c.faults.f (book_of ks) m.web) (sym held)
+        (subst₂ (λ (n : ℕ) (l : List Block). Readable n (book_of l) (member_at i (world_in s)).web) (sym p.faults) (sym ek) (readable i g))
 
     -- and what it gives is the order
-    pub names-read : (count : ℕ) (out names : List ℕ) → names ≡ take count out → count ≡ length (order f (book_of ks) (member_at i (world_in s)).web) →
-        out ≡ padded 4096 (order f (book_of ks) (member_at i (world_in s)).web) → names ≡ order_in s i
+    pub names-read : (count : ℕ) (out names : List ℕ) → names ≡ take count out → count ≡ length (order c.faults.f (book_of ks) (member_at i (world_in s)).web) →
+        out ≡ padded 4096 (order c.faults.f (book_of ks) (member_at i (world_in s)).web) → names ≡ order_in s i
     names-read count out names is long listed =
-        let same : order f (book_of ks) (member_at i (world_in s)).web ≡ order_in s i =
-        ap₂ (λ (n : ℕ) (l : List Block). order n (book_of l) (member_at i (world_in s)).web) ef ek in
+        let same : order c.faults.f (book_of ks) (member_at i (world_in s)).web ≡ order_in s i =
+        ap₂ (λ (n : ℕ) (l : List Block). order n (book_of l) (member_at i (world_in s)).web) p.faults ek in
         let fits = order_fits i g in
         is ∙ ap₂ (λ (n : ℕ) (l : List ℕ). take n l) (long ∙ ap length same) (listed ∙ ap (padded 4096) same) ∙ front_of_padded 4096 (order_in s i) fits
 
@@ -184,9 +180,3 @@ module _ (s : Scene) (b : TheBook) (c : Committee) (p : Plays s b c) where
       let size = (always_sound s.faults (book_in s) (is_bad s) s.events).size in
       let h = ltb→lt i (members s.faults) (and_left (ltb i (members s.faults)) (not (is_bad s i)) g) in
       omega arith
-
--- a part that ends at the end at the latest
-pub take_min : {X : Type 0} (n : ℕ) (xs : List X) (m : ℕ) → m ≡ min n (length xs) → take (m - 0) xs ≡ take n xs
-take_min n xs m e =
-    ⊎_elim (λ h. ap (λ k. take k xs) (omega arith))
-    (λ h. ap (λ k. take k xs) (omega arith) ∙ take_all (length xs) xs (omega arith) ∙ sym (take_all n xs h)) (cases_lt n (length xs))

@@ -1,53 +1,31 @@
 -- That the seats hold what the members should after a step of one. Assumes nothing.
-use Rattle.std.proofs.Common.{◌≡◌, ℕ, zero, suc, ◌+◌, ◌<◌, ◌≤◌, Bool, true, false, cond, not, ◌&&◌, eqb, ltb, List, [], ◌∷◌, ◌++◌, map, length, get_or, set, vec_items, vec_len, Vec, sym, refl, ap, ◌∙◌, subst, ap₂, ⊎_elim, add-one, arith}
+use Rattle.std.proofs.Common.{◌≡◌, ℕ, zero, suc, ◌+◌, ◌<◌, ◌≤◌, Bool, true, false, cond, ◌&&◌, T, eqb, ltb, List, [], ◌∷◌, ◌++◌, map, length, get_or, set, is_some, Some, None, Option, MutBor, sym, refl, ap, ◌∙◌, subst, ap₂, ⊎_elim, add-one, arith, ltb→lt}
+use Rattle.std.specs.Prelude.{IfSome}
 use Rattle.std.proofs.lemmas.List.{get_or-map, length-map, map-set, map_push, set-get_or, length-set, length_push, get_or-set_same, get_or-set_other, get_or_append_left, get_or_push}
-use Rattle.std.proofs.lemmas.Bool.{lt-ltb, le-ltb, ltb-true, ltb-false, cases_eq, cases_lt}
-use Rattle.std.specs.declared.alloc.Global.{Global}
+use Rattle.std.proofs.lemmas.Bool.{lt-ltb, le-ltb, cases_eq, cases_lt}
 use Rattle.replica.specs.declared.replica.Replica.{Replica}
-use Rattle.replica.specs.declared.seat.Answer.{Answer}
-use Rattle.replica.specs.declared.seat.Answer.TheVariants.{Done, MayNot, NoRoom}
-use Rattle.replica.specs.Answers.{number_of}
 use Rattle.model.specs.Member.{Member, new_member}
-use Rattle.model.specs.Seat.{answer, after, done}
+use Rattle.model.specs.Seat.{answer, after, done, may_not}
 use Rattle.model.specs.World.{new_members}
 use Rattle.model.proofs.Worlds.{new_size}
-use Rattle.rehearsal.specs.Seated.{member_of, Sit, Steps}
+use Rattle.rehearsal.specs.Seated.{Sit, StepsFrom}
+use Rattle.replica.specs.Held.{held as member_of}
 
--- what isn't done isn't answered so
-pub not_done : {A : Type 0} (a : Answer A) → ((x : A) → a ≡ Done x → ⊥) → eqb (number_of a) done ≡ false
-not_done (Done x) never = absurd (never x refl)
-not_done MayNot never = refl
-not_done NoRoom never = refl
-
--- what a look at a place of a vector tells
-pub place_within : {X : Type 0} (v : Vec X Global) (i : ℕ) → true ≡ ltb i (vec_len v) → i < length (vec_items v)
-place_within v i e = omega (arith, ltb-true i (vec_len v) (sym e), v.ok.0)
-
-pub place_out : {X : Type 0} (v : Vec X Global) (i : ℕ) → false ≡ ltb i (vec_len v) → length (vec_items v) ≤ i
-place_out v i e = omega (arith, ltb-false i (vec_len v) (sym e), v.ok.0)
+-- the seat that a look at a place finds
+pub found : (seats : List Replica) (i : ℕ) (o : Option (MutBor Replica)) (seat : MutBor Replica) → o ≡ Some seat → is_some o ≡ ltb i (length seats) →
+    IfSome o (λ x. x.now ≡ get_or seats i x.now) → (i < length seats) × (seat.now ≡ get_or seats i seat.now)
+found seats i None seat e has told = absurd (subst (λ o. T (is_some o)) (sym e) tt)
+found seats i (Some x) seat e has told =
+    let same : x ≡ seat = cc in
+    (ltb→lt i (length seats) (subst T has tt), subst (λ (y : MutBor Replica). y.now ≡ get_or seats i y.now) same told)
 
 -- no such seat
-pub nobody : (ms : List Member) (i : ℕ) (may full : Bool) (new : Member) (seats : List Replica) → Sit ms seats → length seats ≤ i →
-    Steps ms i may full new false seats
-nobody ms i may full new seats sit out =
+pub nobody : (ms : List Member) (i : ℕ) (may full : Member → Bool) (next : Member → Member) (seats : List Replica) → Sit ms seats → length seats ≤ i →
+    StepsFrom ms i may full next may_not seats
+nobody ms i may full next seats sit out =
     let size : length ms ≡ length seats = ap length (sym sit.hold) ∙ length-map seats member_of in
-    record { right = ap (λ t. t && may && not full) (sym (le-ltb i (length ms) (omega arith))); after = sit }
-
-pub size_of : (ms : List Member) (seats : List Replica) → Sit ms seats → length ms ≡ length seats
-size_of ms seats sit = ap length (sym sit.hold) ∙ length-map seats member_of
-
--- the seat that a look at a member's place finds holds what the member holds
-pub seated : (ms : List Member) (seats items : List Replica) → Sit ms seats → items ≡ seats → (i : ℕ) → i < length ms → (seat : Replica) →
-    seat ≡ get_or items i seat → member_of seat ≡ get_or ms i new_member
-seated ms seats items sit same i h seat is =
-    let within : i < length seats = omega (arith, size_of ms seats sit) in
-    ap member_of (is ∙ ap (λ (l : List Replica). get_or l i seat) same) ∙ sym (get_or-map member_of seats i seat new_member within)
-    ∙ ap (λ l. get_or l i new_member) sit.hold
-
-answered : (may full : Bool) (given : ℕ) → given ≡ answer may full → eqb given done ≡ (may && not full)
-answered true true given e = ap (λ n. eqb n done) e
-answered true false given e = ap (λ n. eqb n done) e
-answered false full given e = ap (λ n. eqb n done) e
+    let m = get_or ms i new_member in
+    record { right = ap (λ t. answer (t && may m) (full m)) (sym (le-ltb i (length ms) (omega arith))); after = sit }
 
 module _ (ms : List Member) (seats : List Replica) (sit : Sit ms seats) (i : ℕ) (within : i < length seats) (old new : Replica) (is : old ≡ get_or seats i old) where
   size : length ms ≡ length seats
@@ -77,20 +55,16 @@ module _ (ms : List Member) (seats : List Replica) (sit : Sit ms seats) (i : ℕ
       go false = set-get_or ms i new_member
 
   -- A step of the seat at place i, that may be done as `may` says of the member, unless there is no room, as `full` says.
-  pub stepped : (may : ℕ → Member → Bool) (full : Member → Bool) (target : Member → Member) (given : ℕ) (said : Bool) → eqb given done ≡ said →
-      given ≡ answer (may old.number (member_of old)) (full (member_of old)) → member_of new ≡ after given (target (member_of old)) (member_of old) →
-      new.number ≡ old.number →
-      Steps ms i (may i (get_or ms i new_member)) (full (get_or ms i new_member)) (target (get_or ms i new_member)) said (set seats i new)
-  stepped may full target given said tells e h same =
+  pub stepped : (may : ℕ → Member → Bool) (full : Member → Bool) (next : Member → Member) (given : ℕ) →
+      given ≡ answer (may old.number (member_of old)) (full (member_of old)) → member_of new ≡ after given (next (member_of old)) (member_of old) →
+      new.number ≡ old.number → StepsFrom ms i (may i) full next given (set seats i new)
+  stepped may full next given e h same =
       let m = get_or ms i new_member in
       let there : ltb i (length ms) ≡ true = lt-ltb i (length ms) (omega (arith, size)) in
-      let given_is : given ≡ answer (may i m) (full m) = e ∙ ap₂ (λ k n. answer (may k n) (full n)) number_is held in
       record {
-        right = sym tells ∙ answered (may i m) (full m) given given_is ∙ ap (λ t. t && may i m && not (full m)) (sym there);
+        right = e ∙ ap₂ (λ k n. answer (may k n) (full n)) number_is held ∙ ap (λ t. answer (t && may i m) (full m)) (sym there);
         after = record {
-          hold =
-              new_seated given (target m) (h ∙ ap (λ n. after given (target n) (member_of old)) held)
-              ∙ ap (λ (t : Bool). cond t (set ms i (target m)) ms) tells;
+          hold = new_seated given (next m) (h ∙ ap (λ n. after given (next n) (member_of old)) held);
           numbered = still_numbered same;
         };
       }

@@ -1,55 +1,35 @@
 -- Looking words up, one by one. Assumes nothing.
-use Rattle.std.proofs.Common.{◌≡◌, ℕ, ◌+◌, ◌<◌, ◌≤◌, min, Bool, true, false, cond, List, [], ◌∷◌, ◌++◌, map, length, get_or, take, drop, Some, None, Option, sym, refl, ap, ◌∙◌, ap₂, append_assoc, append-nil, arith}
-use Rattle.std.proofs.lemmas.List.{drop_more, drop_all, map_push, map_more, length-map, length-take}
-use Rattle.std.proofs.lemmas.Bool.{cond-true, cond-false, eq-eqb, ne_eqb}
+use Rattle.std.proofs.Common.{◌≡◌, vec_items, ℕ, ◌+◌, ◌<◌, min, Bool, true, false, cond, List, [], ◌∷◌, ◌++◌, map, length, get_or, take, Some, None, Option, sym, refl, ap, ◌∙◌, append_assoc, append-nil, arith}
+use Rattle.std.proofs.lemmas.List.{map_more, length-map, length-take}
+use Rattle.std.specs.Prelude.{◌==◌, unwrap_or}
+use Rattle.std.specs.List.{find}
+use Rattle.std.specs.Option.{option_map}
 use Rattle.std.specs.Str.{bytes_eq}
 use Rattle.lines.specs.Words.{space, none, joined}
 use Rattle.rehearsal.specs.declared.glossary.Word.{Word}
 use Rattle.rehearsal.specs.Words.{Naming, name_in, names_in, in_front, then_names, text_for}
 use Rattle.rehearsal.specs.Glossaries.{naming_of}
 
--- the loop goes over items, which are the words
-module _ (items words : List Word) (same : items ≡ words) (i : ℕ) where
-  module _ (h : i < length items) (here : Word) (is : here ≡ get_or items i here) where
-    rest : map naming_of (drop i words) ≡ naming_of here ∷ map naming_of (drop (i + 1) words)
-    rest =
-        ap (λ l. map naming_of (drop i l)) (sym same) ∙ ap (map naming_of) (drop_more items i here h)
-        ∙ ap₂ (λ (w : Word) (l : List Word). naming_of w ∷ map naming_of (drop (i + 1) l)) (sym is) same
+-- the word that is found is the one whose name, or text, is asked for
+pub find_name : (text : List ℕ) (words : List Word) → option_map (λ (w : Word). w.name) (find (λ (w : Word). bytes_eq text (vec_items w.text)) words) ≡ name_in text (map naming_of words)
+unfolding name_in
+find_name text [] = refl
+find_name text (w ∷ words) = go (bytes_eq text (vec_items w.text)) (find_name text words)
+  where
+    go : (t : Bool) → option_map (λ (w : Word). w.name) (find (λ (w : Word). bytes_eq text (vec_items w.text)) words) ≡ name_in text (map naming_of words) →
+        option_map (λ (w : Word). w.name) (cond t (Some w) (find (λ (w : Word). bytes_eq text (vec_items w.text)) words)) ≡ cond t (Some w.name) (name_in text (map naming_of words))
+    go true rest = refl
+    go false rest = rest
 
-    pub name-here : (text : List ℕ) → true ≡ bytes_eq text (naming_of here).text → name_in text (map naming_of (drop i words)) ≡ Some here.name
-    unfolding name_in
-    name-here text e = ap (name_in text) rest ∙ cond-true _ _ _ (sym e)
-
-    pub name-later : (text : List ℕ) → false ≡ bytes_eq text (naming_of here).text →
-        name_in text (map naming_of (drop i words)) ≡ name_in text (map naming_of (drop (i + 1) words))
-    unfolding name_in
-    name-later text e = ap (name_in text) rest ∙ cond-false _ _ _ (sym e)
-
-    pub text-here : (name : ℕ) → here.name ≡ name → text_for name (map naming_of (drop i words)) ≡ (naming_of here).text
-    unfolding text_for
-    text-here name e = ap (text_for name) rest ∙ cond-true _ _ _ (eq-eqb here.name name e)
-
-    pub text-later : (name : ℕ) → (here.name ≡ name → ⊥) → text_for name (map naming_of (drop i words)) ≡ text_for name (map naming_of (drop (i + 1) words))
-    unfolding text_for
-    text-later name ne = ap (text_for name) rest ∙ cond-false _ _ _ (ne_eqb here.name name ne)
-
-  module _ (h : length items ≤ i) where
-    rest-none : drop i words ≡ []
-    rest-none = ap (drop i) (sym same) ∙ drop_all i items h
-
-    pub name-end : (text : List ℕ) → name_in text (map naming_of (drop i words)) ≡ None
-    unfolding name_in
-    name-end text = ap (λ l. name_in text (map naming_of l)) rest-none
-
-    pub text-end : (name : ℕ) → text_for name (map naming_of (drop i words)) ≡ []
-    unfolding text_for
-    text-end name = ap (λ l. text_for name (map naming_of l)) rest-none
-
--- one more word behind the others
-pub words_push : (words all : List Word) (new : Word) (text : List ℕ) → all ≡ words ++ (new ∷ []) → (naming_of new).text ≡ text →
-    map naming_of all ≡ map naming_of words ++ (record { text = text; name = new.name } ∷ [])
-words_push words all new text e t =
-    ap (map naming_of) e ∙ map_push naming_of words new ∙ ap (λ l. map naming_of words ++ (record { text = l; name = new.name } ∷ [])) t
+pub find_text : (name : ℕ) (words : List Word) → unwrap_or (option_map (λ (w : Word). vec_items w.text) (find (λ (w : Word). w.name == name) words)) [] ≡ text_for name (map naming_of words)
+unfolding text_for
+find_text name [] = refl
+find_text name (w ∷ words) = go (w.name == name) (find_text name words)
+  where
+    go : (t : Bool) → unwrap_or (option_map (λ (w : Word). vec_items w.text) (find (λ (w : Word). w.name == name) words)) [] ≡ text_for name (map naming_of words) →
+        unwrap_or (option_map (λ (w : Word). vec_items w.text) (cond t (Some w) (find (λ (w : Word). w.name == name) words))) [] ≡ cond t (vec_items w.text) (text_for name (map naming_of words))
+    go true rest = refl
+    go false rest = rest
 
 -- ---- names for many words
 unfoldable pub behind : List ℕ → Option (List ℕ) → Option (List ℕ)
@@ -86,9 +66,6 @@ unfolding names_in behind
 names_end ns texts left_over done e inv = inv ∙ ap (λ l. behind done (names_in l ns)) e ∙ ap Some (append-nil done)
 
 -- ---- words on one line
-none_push : (ws : List (List ℕ)) (w : List ℕ) → none (ws ++ (w ∷ [])) ≡ false
-none_push [] w = refl
-none_push (v ∷ ws) w = refl
 
 join_push : (ws : List (List ℕ)) (w : List ℕ) → joined (ws ++ (w ∷ [])) ≡ cond (none ws) w (joined ws ++ (space ∷ w))
 unfolding joined

@@ -4,6 +4,7 @@ pub mod Noted
 pub mod Words
 pub mod Glossaries
 pub mod Scenes
+pub mod Held
 pub mod Played
 pub mod Saying
 pub mod Commands

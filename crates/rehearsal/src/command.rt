@@ -1,13 +1,15 @@
 // What a line of a script says.
-ghost use Rattle.std.specs.Prelude.{◌≡◌, ℕ, ◌<◌, List, ◌∷◌, length, Some, None, Ok, Err, ◌≢◌};
-ghost use Rattle.lines.specs.Words.{words_of};
+ghost use Rattle.std.specs.Prelude.{◌≡◌, ℕ, ◌<◌, List, ◌∷◌, length, Some, None, ◌≢◌};
 ghost use Rattle.lines.specs.Left.{left};
-ghost use Rattle.rehearsal.specs.Saying.{Said, Keyed, Described, spelled, Reads, MemberAndWord, JustMember, Describes, Says};
-ghost use Rattle.rehearsal.specs.Commands.{said, key_of, described};
+ghost use Rattle.lines.specs.Words.{words_of};
+ghost use Rattle.rehearsal.specs.Saying.{Keyed, Described, spelled, Reads, MemberAndWord, JustMember, Describes};
+ghost use Rattle.rehearsal.specs.Commands.{key_of, described, Parses, SaysOrNot};
 
 use crate::act::Act;
 use lines::numbers::number;
-use lines::words::{Words, same};
+use lines::words::Words;
+use std::error::Error;
+use std::fmt;
 
 /// A block, as a line describes it: the words of its parents are still to be read.
 #[derive(Clone, Copy, Debug)]
@@ -26,7 +28,11 @@ pub enum Command<'a> {
     /// `block WORD AUTHOR ROUND LOAD PARENTS..`: a word for a block.
     Block(BlockLine<'a>),
     /// `makes MEMBER WORD` and the like: a step of a member.
-    Step(Act, u32, &'a [u8]),
+    Step {
+        act: Act,
+        member: u32,
+        word: &'a [u8],
+    },
     /// `bad MEMBER`: the member is bad.
     Bad(u32),
     /// `order MEMBER`: the order that the member reads.
@@ -34,8 +40,16 @@ pub enum Command<'a> {
 }
 
 /// A line that isn't of one of these forms, or has a number that is too large for any.
-#[derive(Clone, Copy, Debug)]
+#[derive(Clone, Copy, Debug, PartialEq, Eq)]
 pub struct NotACommand;
+
+impl fmt::Display for NotACommand {
+    fn fmt<W: fmt::Write>(&self, f: &mut fmt::Formatter<W>) -> fmt::Result {
+        f.write_str("the line says nothing")
+    }
+}
+
+impl Error for NotACommand {}
 
 /// The first words of commands.
 #[derive(Clone, Copy)]
@@ -46,25 +60,25 @@ enum Keyword {
     Order,
 }
 
+/// What stands behind the first word of a step.
+#[derive(Clone, Copy)]
+struct MemberWord<'a> {
+    member: u32,
+    word: &'a [u8],
+}
+
 fn keyword_of(word: &[u8]) -> Option<Keyword>
     ensures { elim result [ Some k ↦ word.now ≡ spelled (key_of k) | None ↦ ((k : Keyed) → word.now ≢ spelled k) ] }
 {
-    if same(word, b"block") {
-        Some(Keyword::Block)
-    } else if same(word, b"makes") {
-        Some(Keyword::Step(Act::Makes))
-    } else if same(word, b"signs") {
-        Some(Keyword::Step(Act::Signs))
-    } else if same(word, b"takes") {
-        Some(Keyword::Step(Act::Takes))
-    } else if same(word, b"forges") {
-        Some(Keyword::Step(Act::Forges))
-    } else if same(word, b"bad") {
-        Some(Keyword::Bad)
-    } else if same(word, b"order") {
-        Some(Keyword::Order)
-    } else {
-        None
+    match word {
+        b"block" => Some(Keyword::Block),
+        b"makes" => Some(Keyword::Step(Act::Makes)),
+        b"signs" => Some(Keyword::Step(Act::Signs)),
+        b"takes" => Some(Keyword::Step(Act::Takes)),
+        b"forges" => Some(Keyword::Step(Act::Forges)),
+        b"bad" => Some(Keyword::Bad),
+        b"order" => Some(Keyword::Order),
+        _ => None,
     }
 }
 
@@ -75,10 +89,7 @@ fn next_word<'a>(words: &mut Words<'a>) -> Option<&'a [u8]>
       | None ↦ ((w : List ℕ) (ws : List (List ℕ)) → left words.old ≡ w ∷ ws → 0 < length w → ⊥)
     ] }
 {
-    let Some(word) = words.next_word() else {
-        return None;
-    };
-    if word.is_empty() { None } else { Some(word) }
+    words.next().filter(|word| !word.is_empty())
 }
 
 // the next word, which is a number
@@ -88,92 +99,61 @@ fn next_number(words: &mut Words<'_>) -> Option<u32>
       | None ↦ ((digits : List ℕ) (ws : List (List ℕ)) (n : ℕ) → left words.old ≡ digits ∷ ws → Reads digits n → ⊥)
     ] }
 {
-    let Some(digits) = words.next_word() else {
-        return None;
-    };
-    match number(digits) {
-        Some(n) => Some(n),
-        None => None,
-    }
+    number(words.next()?)
 }
 
-fn member_and_word(mut words: Words<'_>) -> Option<(u32, &[u8])>
+fn member_and_word(mut words: Words<'_>) -> Option<MemberWord<'_>>
     ensures { elim result [
-      | Some p ↦ MemberAndWord (left words.entry) p.0 p.1.now
+      | Some m ↦ MemberAndWord (left words.entry) m.member m.word.now
       | None ↦ ((i : ℕ) (word : List ℕ) → MemberAndWord (left words.entry) i word → ⊥)
     ] }
 {
-    let Some(member) = next_number(&mut words) else {
-        return None;
-    };
-    let Some(word) = next_word(&mut words) else {
-        return None;
-    };
-    if words.is_done() {
-        Some((member, word))
-    } else {
-        None
-    }
+    let member = next_number(&mut words)?;
+    let word = next_word(&mut words)?;
+    words.is_done().then_some(MemberWord { member, word })
 }
 
 fn just_member(mut words: Words<'_>) -> Option<u32>
     ensures { elim result [ Some i ↦ JustMember (left words.entry) i | None ↦ ((i : ℕ) → JustMember (left words.entry) i → ⊥) ] }
 {
-    let Some(member) = next_number(&mut words) else {
-        return None;
-    };
-    if words.is_done() { Some(member) } else { None }
+    let member = next_number(&mut words)?;
+    words.is_done().then_some(member)
 }
 
 fn block_line(mut words: Words<'_>) -> Option<BlockLine<'_>>
     ensures { elim result [ Some d ↦ Describes (left words.entry) (described d) | None ↦ ((d : Described) → Describes (left words.entry) d → ⊥) ] }
 {
-    let Some(word) = next_word(&mut words) else {
-        return None;
-    };
-    let Some(author) = next_number(&mut words) else {
-        return None;
-    };
-    let Some(round) = next_number(&mut words) else {
-        return None;
-    };
-    let Some(load) = next_word(&mut words) else {
-        return None;
-    };
     Some(BlockLine {
-        word,
-        author,
-        round,
-        load,
+        word: next_word(&mut words)?,
+        author: next_number(&mut words)?,
+        round: next_number(&mut words)?,
+        load: next_word(&mut words)?,
         parents: words,
     })
 }
 
-/// What a line says.
-pub fn parse(line: &[u8]) -> Result<Command<'_>, NotACommand>
-    ensures { elim result [ Ok c ↦ Says (words_of line.now) (said c) | Err e ↦ ((what : Said) → Says (words_of line.now) what → ⊥) ] }
+// what a line says
+fn command_in(line: &[u8]) -> Option<Command<'_>>
+    ensures { SaysOrNot (words_of line.now) result }
 {
     let mut words = Words::of(line);
-    let Some(first) = words.next_word() else {
-        return Err(NotACommand);
-    };
-    match keyword_of(first) {
-        Some(Keyword::Block) => match block_line(words) {
-            Some(block) => Ok(Command::Block(block)),
-            None => Err(NotACommand),
-        },
-        Some(Keyword::Step(act)) => match member_and_word(words) {
-            Some((member, word)) => Ok(Command::Step(act, member, word)),
-            None => Err(NotACommand),
-        },
-        Some(Keyword::Bad) => match just_member(words) {
-            Some(member) => Ok(Command::Bad(member)),
-            None => Err(NotACommand),
-        },
-        Some(Keyword::Order) => match just_member(words) {
-            Some(member) => Ok(Command::Order(member)),
-            None => Err(NotACommand),
-        },
-        None => Err(NotACommand),
+    match keyword_of(words.next()?)? {
+        Keyword::Block => Some(Command::Block(block_line(words)?)),
+        Keyword::Step(act) => {
+            let MemberWord { member, word } = member_and_word(words)?;
+            Some(Command::Step { act, member, word })
+        }
+        Keyword::Bad => Some(Command::Bad(just_member(words)?)),
+        Keyword::Order => Some(Command::Order(just_member(words)?)),
+    }
+}
+
+impl<'a> TryFrom<&'a [u8]> for Command<'a> {
+    type Error = NotACommand;
+
+    ghost try_from_gives = { λ line r. Parses line.now r };
+
+    fn try_from(line: &'a [u8]) -> Result<Command<'a>, NotACommand> {
+        command_in(line).ok_or(NotACommand)
     }
 }

@@ -1,21 +1,27 @@
-// The committee: a seat for each member, who signed what, and the script's words for blocks. The book, which all members read, is lent to the
-// calls.
+// The committee: the book that all members read, a seat for each member, who signed what, and the script's words for blocks.
+ghost use Rattle.rehearsal.specs.Held.{Played};
+
 use crate::glossary::Glossary;
 use crate::notes::Notes;
 use crate::seats::Seats;
+use book::Book;
 use members::{Faults, MemberSet};
+use std::alloc::Global;
 
 mod blocks;
 mod opening;
 mod orders;
 mod steps;
 
-/// All members of a committee, with what has happened so far.
+/// All members of a committee and their book, with what has happened so far: all that came by the calls of a script's lines.
 #[derive(Drop)]
-pub struct Committee {
+pub struct Committee<'a> {
+    heap: Global,
     faults: Faults,
+    book: Book<'a>,
     bad: MemberSet,
     seats: Seats,
     notes: Notes,
     words: Glossary,
+    ghost played: { ∥ Played (record { faults = faults; book = book; bad = bad; seats = seats; notes = notes; words = words }) ∥₁ },
 }

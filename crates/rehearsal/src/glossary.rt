@@ -1,11 +1,11 @@
 // The script's words for blocks.
-ghost use Rattle.std.specs.Prelude.{◌≡◌, [], ◌∷◌, ◌++◌, IfOk, vec_items, OnOk};
+ghost use Rattle.std.specs.Prelude.{◌≡◌, [], ◌∷◌, ◌++◌, IfOk, vec_items, OnOk, OnErr};
 ghost use Rattle.std.specs.Option.{option_map};
 ghost use Rattle.lines.specs.Left.{left};
 ghost use Rattle.rehearsal.specs.Words.{name_in, names_in, text_for};
 ghost use Rattle.rehearsal.specs.Glossaries.{namings};
 
-use lines::words::{Words, same};
+use lines::words::Words;
 use std::alloc::{AllocError, Global};
 
 /// A word that stands for the block of this name.
@@ -16,8 +16,10 @@ pub struct Word {
 }
 
 /// All words, the earliest first.
+// A list and no map: it is searched by word, and by name for the first word, so that there would have to be two maps, kept alike.
 #[derive(Drop)]
 pub struct Glossary {
+    heap: Global,
     words: Vec<Word>,
 }
 
@@ -27,6 +29,7 @@ impl Glossary {
         ensures { namings result ≡ [] }
     {
         Glossary {
+            heap,
             words: Vec::new(heap),
         }
     }
@@ -35,24 +38,18 @@ impl Glossary {
     pub fn name_of(&self, text: &[u8]) -> Option<u32>
         ensures { result ≡ name_in text.now (namings self.now) }
     {
-        for word in self.words.as_slice() {
-            if same(text, word.text.as_slice()) {
-                return Some(word.name);
-            }
-        }
-        None
+        self.words
+            .iter()
+            .find(|word| text == word.text.as_slice())
+            .map(|word| word.name)
     }
 
     /// The names of the blocks that words stand for, if each of them stands for one.
-    pub fn names_of(
-        &self,
-        heap: Global,
-        mut texts: Words<'_>,
-    ) -> Result<Option<Vec<u32>>, AllocError>
+    pub fn names_of(&self, texts: Words<'_>) -> Result<Option<Vec<u32>>, AllocError>
         ensures { IfOk result (λ o. option_map vec_items o ≡ names_in (left texts.entry) (namings self.now)) }
     {
-        let mut names = Vec::new(heap);
-        while let Some(text) = texts.next_word() {
+        let mut names = Vec::new(self.heap);
+        for text in texts {
             let Some(name) = self.name_of(text) else {
                 return Ok(None);
             };
@@ -65,19 +62,18 @@ impl Glossary {
     pub fn text_of(&self, name: u32) -> &[u8]
         ensures { result.now ≡ text_for name (namings self.now) }
     {
-        for word in self.words.as_slice() {
-            if word.name == name {
-                return word.text.as_slice();
-            }
+        match self.words.iter().find(|word| word.name == name) {
+            Some(word) => word.text.as_slice(),
+            None => b"",
         }
-        b""
     }
 
     /// One more word.
-    pub fn add(&mut self, heap: Global, text: &[u8], name: u32) -> Result<(), AllocError>
-        ensures { OnOk result (namings self.new ≡ namings self.old ++ (record { text = text.now; name = name } ∷ [])) }
+    pub fn add(&mut self, text: &[u8], name: u32) -> Result<(), AllocError>
+        ensures added { OnOk result (namings self.new ≡ namings self.old ++ (record { text = text.now; name = name } ∷ [])) }
+        ensures else_same { OnErr result (namings self.new ≡ namings self.old) }
     {
-        let text = Vec::from_slice(heap, text)?;
+        let text = Vec::from_slice(self.heap, text)?;
         self.words.push(Word { text, name })?;
         Ok(())
     }

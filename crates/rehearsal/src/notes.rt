@@ -1,5 +1,5 @@
 // What happened to the blocks: who signed each, and whether its author really made it.
-ghost use Rattle.std.specs.Prelude.{◌≡◌, ℕ, ◌+◌, ◌<◌, List, [], ◌∷◌, length, OnOk, ◌==◌, slice_index_or};
+ghost use Rattle.std.specs.Prelude.{◌≡◌, ℕ, ◌+◌, ◌<◌, List, ◌∷◌, length, OnOk, IfOk, ◌==◌, slice_index_or, replicate, vec_len, vec_capacity};
 ghost use Rattle.model.specs.World.{Signature};
 ghost use Rattle.rehearsal.specs.Noted.{no_note, Noted};
 
@@ -33,13 +33,12 @@ pub struct Notes {
 }
 
 impl Notes {
-    /// No block yet.
-    pub fn new(heap: Global) -> Notes
-        ensures { result.notes.items ≡ [] }
+    /// So many blocks, to which nothing has happened yet.
+    pub fn new(heap: Global, count: u32) -> Result<Notes, AllocError>
+        ensures { IfOk result (λ n. n.notes.items ≡ replicate count no_note) }
     {
-        Notes {
-            notes: Vec::new(heap),
-        }
+        let notes = vec![in heap; Note::new(); count as usize]?;
+        Ok(Notes { notes })
     }
 
     /// Whether there is no block yet.
@@ -49,24 +48,31 @@ impl Notes {
         self.notes.is_empty()
     }
 
-    /// One more block, to which nothing has happened yet.
-    pub fn push(&mut self) -> Result<(), AllocError>
-        ensures long { OnOk result (length self.new.notes.items ≡ length self.old.notes.items + 1) }
-        ensures noted { OnOk result ((x : ℕ) →
-            slice_index_or self.new.notes.items x no_note ≡ slice_index_or self.old.notes.items x no_note) }
+    /// Room for one more block.
+    pub fn make_room(&mut self) -> Result<(), AllocError>
+        ensures same { self.new.notes.items ≡ self.old.notes.items }
+        ensures room { OnOk result (vec_len self.new.notes < vec_capacity self.new.notes) }
     {
-        self.notes.push(Note::new())?;
-        Ok(())
+        self.notes.reserve(1)
+    }
+
+    /// One more block, to which nothing has happened yet.
+    pub fn push(&mut self)
+        requires { vec_len self.old.notes < vec_capacity self.old.notes }
+        ensures long { length self.new.notes.items ≡ length self.old.notes.items + 1 }
+        ensures noted { (x : ℕ) → slice_index_or self.new.notes.items x no_note ≡ slice_index_or self.old.notes.items x no_note }
+    {
+        self.notes.push(Note::new()).unwrap();
     }
 
     // what happened to a block: nothing if there is none of that name
     fn note(&self, name: u32) -> Note
         ensures { result ≡ slice_index_or self.now.notes.items name no_note }
     {
-        match self.notes.get(name as usize) {
-            Some(note) => *note,
-            None => Note::new(),
-        }
+        self.notes
+            .get(name as usize)
+            .copied()
+            .unwrap_or(Note::new())
     }
 
     /// Who signed a block.
@@ -85,32 +91,30 @@ impl Notes {
 
     /// A block's author made it.
     pub fn make(&mut self, name: u32)
+        requires { name < length self.old.notes.items }
         ensures long { length self.new.notes.items ≡ length self.old.notes.items }
-        ensures noted { (ss : List Signature) (done : List ℕ) → name < length self.old.notes.items →
-            Noted ss done self.old.notes.items → Noted ss (name ∷ done) self.new.notes.items }
+        ensures noted { (ss : List Signature) (done : List ℕ) → Noted ss done self.old.notes.items → Noted ss (name ∷ done) self.new.notes.items }
     {
-        if let Some(note) = self.notes.get_mut(name as usize) {
-            note.made = true;
-        }
+        self.notes[name as usize].made = true;
     }
 
     /// A member's signature of a block, whoever gave it.
     pub fn add(&mut self, member: u32, name: u32)
+        requires { name < length self.old.notes.items }
         ensures long { length self.new.notes.items ≡ length self.old.notes.items }
-        ensures noted { (ss : List Signature) (done : List ℕ) → name < length self.old.notes.items → member < 64 →
-            Noted ss done self.old.notes.items →
+        ensures noted { (ss : List Signature) (done : List ℕ) → member < 64 → Noted ss done self.old.notes.items →
             Noted (record { who = member; name = name } ∷ ss) done self.new.notes.items }
     {
-        if let Some(note) = self.notes.get_mut(name as usize) {
-            let _ = note.signers.insert(member);
-        }
+        let note = &mut self.notes[name as usize];
+        // a member's number is small enough for a set of members, so this is always done
+        let _ = note.signers.insert(member);
     }
 
     /// The signature that a good member has leave to give.
     pub fn sign(&mut self, leave: LeaveToSign)
+        requires { leave.name < length self.old.notes.items }
         ensures long { length self.new.notes.items ≡ length self.old.notes.items }
-        ensures noted { (ss : List Signature) (done : List ℕ) → leave.name < length self.old.notes.items → leave.number < 64 →
-            Noted ss done self.old.notes.items →
+        ensures noted { (ss : List Signature) (done : List ℕ) → leave.number < 64 → Noted ss done self.old.notes.items →
             Noted (record { who = leave.number; name = leave.name } ∷ ss) done self.new.notes.items }
     {
         let Spent { number, name } = leave.spend();

@@ -25,18 +25,19 @@ pub fn play<R: Read + Drop>(rt: &HostRuntime, faults: Faults, input: R) -> io::R
     let mut entries = vec![in heap; Entry::EMPTY; MAX_BLOCKS]?;
     let mut parents = vec![in heap; 0u32; MAX_BLOCKS * MAX_PARENTS]?;
     let mut loads = vec![in heap; 0u8; MAX_BLOCKS * MAX_LOAD]?;
-    let mut book = Book::new(
+    let book = Book::new(
         entries.as_mut_slice(),
         parents.as_mut_slice(),
         loads.as_mut_slice(),
     );
-    let mut player = Player::new(Committee::new(heap, faults)?);
+    let mut player = Player::new(Committee::new(heap, faults, book)?);
     let mut reader = LineReader::new(heap, input);
+    // counted, since each loop is proved to end, and nothing says how long an input is
     for _ in 0..u64::MAX {
-        if !reader.next()? {
+        let Some(line) = reader.next_line()? else {
             break;
-        }
-        let reply = player.hear(heap, &mut book, reader.line())?;
+        };
+        let reply = player.hear(line)?;
         print(rt, reply)?;
     }
     Ok(())

@@ -1,19 +1,15 @@
 // A script, line by line.
-ghost use Rattle.std.specs.Prelude.{◌≡◌, ℕ, true, List, IfOk, Some, None, Option, OnOk};
+ghost use Rattle.std.specs.Prelude.{◌≡◌, ℕ, true, false, List, IfOk, Ok, Err, Option};
 ghost use Rattle.book.specs.Books.{memory};
-ghost use Rattle.book.specs.declared.book.Book.{Book as TheBook};
-ghost use Rattle.rehearsal.specs.Commands.{described};
 ghost use Rattle.rehearsal.specs.Scenes.{Scene};
-ghost use Rattle.rehearsal.specs.Played.{Plays, Played};
+ghost use Rattle.rehearsal.specs.Played.{Plays};
 ghost use Rattle.rehearsal.specs.Ordering.{OrderIs};
-ghost use Rattle.rehearsal.specs.Answering.{LoadIs, Introduced, Tells, Responds, yes_no};
+ghost use Rattle.rehearsal.specs.Answering.{Tells, Responds, Opens, yes_no};
 
-use crate::command::{BlockLine, Command, parse};
+use crate::command::Command;
 use crate::committee::Committee;
-use book::Book;
-use lines::hex;
-use lines::words::same;
-use std::alloc::{AllocError, Global};
+use lines::buffer::TooLong;
+use std::alloc::AllocError;
 
 /// What is printed after a line.
 #[derive(Drop)]
@@ -28,25 +24,9 @@ pub enum Reply {
 
 /// A committee that a script plays.
 #[derive(Drop)]
-pub struct Player {
-    committee: Committee,
+pub struct Player<'a> {
+    committee: Committee<'a>,
     opening: bool,
-}
-
-/// The bytes of a block's load, as a line has it: `-` for none.
-fn load_of(heap: Global, word: &[u8]) -> Result<Option<Vec<u8>>, AllocError>
-    ensures { IfOk result (λ o. elim o [
-      | Some v ↦ LoadIs word.now v.items
-      | None ↦ ((bytes : List ℕ) → LoadIs word.now bytes → ⊥)
-    ]) }
-{
-    if same(word, b"-") {
-        return Ok(Some(Vec::new(heap)));
-    }
-    match hex::bytes_of(heap, word)? {
-        Some(bytes) => Ok(Some(bytes)),
-        None => Ok(None),
-    }
 }
 
 /// What is printed after something that was done, or wasn't.
@@ -56,10 +36,10 @@ fn answer(done: bool) -> Reply
     if done { Reply::Nothing } else { Reply::No }
 }
 
-impl Player {
+impl<'a> Player<'a> {
     /// Before the first line.
-    pub fn new(committee: Committee) -> Player
-        ensures committee { result.committee ≡ committee }
+    pub fn new(committee: Committee<'a>) -> Player<'a>
+        ensures committee { result.committee ≡ committee.entry }
         ensures opening { result.opening ≡ true }
     {
         Player {
@@ -67,55 +47,27 @@ impl Player {
             opening: true,
         }
     }
+}
 
-    fn block(
-        &mut self,
-        heap: Global,
-        book: &mut Book<'_>,
-        block: BlockLine<'_>,
-    ) -> Result<bool, AllocError>
-        ensures { IfOk result (λ done. (s : Scene) → Plays s book.old self.old.committee →
-            Introduced (memory book.old) s (described block.entry) done book.new self.new.committee) }
+impl Player<'_> {
+    fn order(&self, member: u32) -> Result<Reply, AllocError>
+        ensures { IfOk result (λ reply. (s : Scene) → Plays s self.now.committee → ((o : Option (List ℕ)) × OrderIs s member o × Tells s o reply)) }
     {
-        let Some(load) = load_of(heap, block.load)? else {
-            return Ok(false);
-        };
-        let named = self.committee.block(
-            heap,
-            book,
-            block.word,
-            block.author,
-            block.round,
-            load.as_slice(),
-            block.parents,
-        )?;
-        Ok(named)
-    }
-
-    fn order(&self, heap: Global, book: &Book<'_>, member: u32) -> Result<Reply, AllocError>
-        requires { Played book.now self.now.committee }
-        ensures { IfOk result (λ reply. (s : Scene) → Plays s book.now self.now.committee →
-            ((o : Option (List ℕ)) × OrderIs s member o × Tells s o reply)) }
-    {
-        let Some(names) = self.committee.order(heap, book, member)? else {
+        let Some(names) = self.committee.order(member)? else {
             return Ok(Reply::No);
         };
-        let line = self.committee.line_of(heap, names.as_slice())?;
+        let line = self.committee.line_of(names.as_slice())?;
         Ok(Reply::Line(line))
     }
 
     /// Does what a line says, if it may be done.
-    pub fn respond(
-        &mut self,
-        heap: Global,
-        book: &mut Book<'_>,
-        line: &[u8],
-    ) -> Result<Reply, AllocError>
-        requires { Played book.old self.old.committee }
-        ensures { IfOk result (λ reply. (s : Scene) → Plays s book.old self.old.committee →
-            Responds (memory book.old) s self.old.opening line.now reply book.new self.new.committee) }
+    pub fn respond(&mut self, line: &[u8]) -> Result<Reply, AllocError>
+        ensures responds { IfOk result (λ reply. (s : Scene) → Plays s self.old.committee →
+            Responds (memory self.old.committee.book) s self.old.opening line.now reply self.new.committee) }
+        ensures opening { Opens self.old.opening line.now self.new.opening }
+        ensures lent { memory self.new.committee.book ≡ memory self.old.committee.book }
     {
-        let Ok(command) = parse(line) else {
+        let Ok(command) = Command::try_from(line) else {
             if line.is_empty() {
                 return Ok(Reply::Nothing);
             }
@@ -124,48 +76,41 @@ impl Player {
         };
         match command {
             Command::Bad(member) => {
-                let done = self.opening && self.committee.bad(member);
+                let done = self.opening && self.committee.bad(member).is_ok();
                 Ok(answer(done))
             }
             Command::Block(block) => {
                 self.opening = false;
-                let done = self.block(heap, book, block)?;
-                Ok(answer(done))
+                let name = self.committee.block(block)?;
+                Ok(answer(name.is_some()))
             }
-            Command::Step(act, member, word) => {
+            Command::Step { act, member, word } => {
                 self.opening = false;
-                let done = self.committee.step(book, act, member, word);
-                Ok(answer(done))
+                let done = self.committee.step(act, member, word);
+                Ok(answer(done.is_ok()))
             }
             Command::Order(member) => {
                 self.opening = false;
-                let reply = self.order(heap, book, member)?;
-                Ok(reply)
+                self.order(member)
             }
         }
     }
 
     /// The same for a line as it was read: one that is too long to be held says nothing.
-    pub fn hear(
-        &mut self,
-        heap: Global,
-        book: &mut Book<'_>,
-        line: Option<&[u8]>,
-    ) -> Result<Reply, AllocError>
-        requires { Played book.old self.old.committee }
-        ensures played { OnOk result (Played book.new self.new.committee) }
-        ensures heard { IfOk result (λ reply. (s : Scene) → Plays s book.old self.old.committee →
-            elim line.entry [
-              | Some bytes ↦ Responds (memory book.old) s self.old.opening bytes.now reply book.new self.new.committee
-              | None ↦ (reply ≡ Reply.No) × Plays s book.new self.new.committee
-            ]) }
+    pub fn hear(&mut self, line: Result<&[u8], TooLong>) -> Result<Reply, AllocError>
+        ensures heard { IfOk result (λ reply. (s : Scene) → Plays s self.old.committee → elim line.entry [
+          | Ok bytes ↦ Responds (memory self.old.committee.book) s self.old.opening bytes.now reply self.new.committee
+          | Err _ ↦ (reply ≡ Reply.No) × Plays s self.new.committee
+        ]) }
+        ensures opening { elim line.entry [
+          | Ok bytes ↦ Opens self.old.opening bytes.now self.new.opening
+          | Err _ ↦ self.new.opening ≡ false
+        ] }
+        ensures lent { memory self.new.committee.book ≡ memory self.old.committee.book }
     {
         match line {
-            Some(bytes) => {
-                let reply = self.respond(heap, book, bytes)?;
-                Ok(reply)
-            }
-            None => {
+            Ok(bytes) => self.respond(bytes),
+            Err(TooLong) => {
                 self.opening = false;
                 Ok(Reply::No)
             }

@@ -1,14 +1,16 @@
 // Blocks and the words for them.
-ghost use Rattle.std.specs.Prelude.{◌≡◌, IfOk};
+ghost use Rattle.std.specs.Prelude.{◌≡◌, ℕ, List, IfOk, Some, None};
 ghost use Rattle.book.specs.Books.{memory};
-ghost use Rattle.book.specs.Meeting.{block_of};
-ghost use Rattle.lines.specs.Left.{left};
+ghost use Rattle.book.specs.Meeting.{shown};
+ghost use Rattle.rehearsal.specs.Answering.{LoadIs, Introduced};
+ghost use Rattle.rehearsal.specs.Commands.{described};
 ghost use Rattle.rehearsal.specs.Scenes.{Scene};
-ghost use Rattle.rehearsal.specs.Played.{Plays, Meets, Named};
+ghost use Rattle.rehearsal.specs.Played.{Plays, Meets};
 
 use super::Committee;
-use book::Book;
-use lines::words::Words;
+use crate::command::BlockLine;
+use book::Block;
+use lines::hex;
 use std::alloc::{AllocError, Global};
 
 /// The authors of a script's blocks are below this.
@@ -17,56 +19,67 @@ const AUTHORS: u32 = 256;
 /// The rounds of a script's blocks are below this.
 const ROUNDS: u32 = 1 << 20;
 
-impl Committee {
+/// The bytes of a block's load, as a line has it: `-` for none.
+fn load_of(heap: Global, word: &[u8]) -> Result<Option<Vec<u8>>, AllocError>
+    ensures { IfOk result (λ o. elim o [
+      | Some v ↦ LoadIs word.now v.items
+      | None ↦ ((bytes : List ℕ) → LoadIs word.now bytes → ⊥)
+    ]) }
+{
+    if word == b"-".as_slice() {
+        return Ok(Some(Vec::new(heap)));
+    }
+    hex::bytes_of(heap, word)
+}
+
+impl Committee<'_> {
     // The name of a block, unless it can't be in the book.
-    fn meet(
-        &mut self,
-        book: &mut Book<'_>,
-        author: u32,
-        round: u32,
-        parents: &[u32],
-        load: &[u8],
-    ) -> Result<Option<u32>, AllocError>
-        ensures plays { IfOk result (λ o. (s : Scene) → Plays s book.old self.old →
-            Meets (memory book.old) s (block_of author round parents.now load.now) o book.new self.new) }
-        ensures lent { memory book.new ≡ memory book.old }
+    fn meet(&mut self, block: Block<'_>) -> Result<Option<u32>, AllocError>
+        ensures plays { IfOk result (λ o. (s : Scene) → Plays s self.old →
+            Meets (memory self.old.book) s (shown block.entry) o self.new) }
+        ensures lent { memory self.new.book ≡ memory self.old.book }
     {
-        let next = book.len();
-        let Ok(name) = book.meet(author, round, parents, load) else {
+        // room for the note comes first: where memory runs out, the book must not have grown
+        self.notes.make_room()?;
+        let next = self.book.len();
+        let Ok(name) = self.book.meet(block) else {
             return Ok(None);
         };
         if name == next {
-            self.notes.push()?;
+            self.notes.push();
         }
         Ok(Some(name))
     }
 
-    /// A word for a block; says whether it could be: the word isn't in use, the author and the round aren't too large, each parent's word
-    /// stands for a block, and the book takes the block.
-    pub fn block(
-        &mut self,
-        heap: Global,
-        book: &mut Book<'_>,
-        word: &[u8],
-        author: u32,
-        round: u32,
-        load: &[u8],
-        parents: Words<'_>,
-    ) -> Result<bool, AllocError>
-        ensures plays { IfOk result (λ said. (s : Scene) → Plays s book.old self.old →
-            Named (memory book.old) s word.now author round load.now (left parents.entry) said book.new self.new) }
-        ensures lent { memory book.new ≡ memory book.old }
+    /// A word for a block, as a line describes it: the block's name, if it could be given. It could if the word isn't in use, the author and the
+    /// round aren't too large, the load is bytes, each parent's word stands for a block, and the book takes the block.
+    pub fn block(&mut self, line: BlockLine<'_>) -> Result<Option<u32>, AllocError>
+        ensures plays { IfOk result (λ o. (s : Scene) → Plays s self.old →
+            Introduced (memory self.old.book) s (described line.entry) o self.new) }
+        ensures lent { memory self.new.book ≡ memory self.old.book }
     {
-        if author >= AUTHORS || round >= ROUNDS || self.words.name_of(word).is_some() {
-            return Ok(false);
+        if line.author >= AUTHORS
+            || line.round >= ROUNDS
+            || self.words.name_of(line.word).is_some()
+        {
+            return Ok(None);
         }
-        let Some(names) = self.words.names_of(heap, parents)? else {
-            return Ok(false);
+        let Some(load) = load_of(self.heap, line.load)? else {
+            return Ok(None);
         };
-        let Some(name) = self.meet(book, author, round, names.as_slice(), load)? else {
-            return Ok(false);
+        let Some(parents) = self.words.names_of(line.parents)? else {
+            return Ok(None);
         };
-        self.words.add(heap, word, name)?;
-        Ok(true)
+        let block = Block {
+            author: line.author,
+            round: line.round,
+            parents: parents.as_slice(),
+            load: load.as_slice(),
+        };
+        let Some(name) = self.meet(block)? else {
+            return Ok(None);
+        };
+        self.words.add(line.word, name)?;
+        Ok(Some(name))
     }
 }

@@ -1,5 +1,4 @@
-use Rattle.std.proofs.Common.{ℕ, List, ◌++◌, map, vec_items, ap, ◌∙◌, arith}
-use Rattle.std.proofs.lemmas.List.{take_all}
+use Rattle.std.proofs.Common.{ℕ, List, ◌++◌, vec_items, ap, ◌∙◌, arith}
 use Rattle.lines.specs.Words.{joined}
 use Rattle.rehearsal.specs.Words.{text_for}
 use Rattle.rehearsal.specs.Glossaries.{namings}
@@ -24,8 +23,3 @@ loop-i-preserved c =
           line_first text c.args.names.now c.loop-i.i c.loop-i-test.true (vec_items c.loop-i.line) mid (vec_items c.extend_from_slice.new.self)
           c.loop-i.invariant more (omega (arith, w.if-i-gt0.false)) (ap vec_items w.line-is)
     ]
-
-pub returns : goal.returns
-returns c =
-    c.loop-i.invariant
-    ∙ ap (λ (l : List ℕ). joined (map (λ (x : ℕ). text_for x (namings c.args.self.now.words)) l)) (take_all c.loop-i.i c.args.names.now c.loop-i-test.false)

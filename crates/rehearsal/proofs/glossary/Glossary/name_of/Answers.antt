@@ -1,26 +1,17 @@
-use Rattle.std.proofs.Common.{vec_items, sym, ap, ◌∙◌}
+use Rattle.std.proofs.Common.{◌≡◌, rules, tests, vec_items, ◌∙◌, ap}
+use Rattle.std.specs.Option.{option_map}
 use Rattle.std.specs.Str.{bytes_eq}
-use Rattle.rehearsal.proofs.Wording.{name-here, name-later, name-end}
+use Rattle.std.proofs.lemmas.Iterator.{YieldsList-from_slice}
+use Rattle.std.proofs.lemmas.Iterator.Search.{find_from_yields_List}
+use Rattle.rehearsal.specs.declared.glossary.Word.{Word}
+use Rattle.rehearsal.proofs.Wording.{find_name}
 use Rattle.rehearsal.proofs.glossary.Glossary.name_of.Goals as goal
-
-pub returns-then-same : goal.returns-then-same
-returns-then-same c =
-    let text = c.args.text.now in
-    let told = c.if-same.ensures ∙ ap (bytes_eq text) c.as_slice.ensures.value in
-    sym (c.loop-word.invariant
-    ∙ name-here c.as_slice-word-items.result.now (vec_items c.args.self.now.words) c.as_slice-word-items.ensures.value c.loop-word.word-index
-    c.loop-word-test.true c.word-item.result c.word-item.is text told)
-
-pub loop-word-preserved : goal.loop-word-preserved
-loop-word-preserved c =
-    let text = c.args.text.now in
-    let told = c.if-same.ensures ∙ ap (bytes_eq text) c.as_slice.ensures.value in
-    c.loop-word.invariant
-    ∙ name-later c.as_slice-word-items.result.now (vec_items c.args.self.now.words) c.as_slice-word-items.ensures.value c.loop-word.word-index
-    c.loop-word-test.true c.word-item.result c.word-item.is text told
 
 pub returns : goal.returns
 returns c =
-    sym (c.loop-word.invariant
-    ∙ name-end c.as_slice-word-items.result.now (vec_items c.args.self.now.words) c.as_slice-word-items.ensures.value c.loop-word.word-index
-    c.loop-word-test.false c.args.text.now)
+    let words = vec_items c.args.self.now.words in
+    let found =
+    find_from_yields_List {all = words} (λ (w : Word). bytes_eq c.args.text.now (vec_items w.text)) _ _ c.find.result c.find.ensures.ran
+    (YieldsList-from_slice _ cc) (λ x b q k. search (rules, tests)) in
+    let name : c.map.result ≡ option_map (λ (w : Word). w.name) (option_map (λ b. b.now) c.find.result) = search rules in
+    name ∙ ap (option_map (λ (w : Word). w.name)) found ∙ find_name c.args.text.now words

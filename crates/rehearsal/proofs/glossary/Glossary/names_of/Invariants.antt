@@ -1,4 +1,4 @@
-use Rattle.std.proofs.Common.{◌≡◌, length, vec_items}
+use Rattle.std.proofs.Common.{◌≡◌, vec_items}
 use Rattle.lines.specs.Left.{left}
 use Rattle.rehearsal.specs.Words.{names_in}
 use Rattle.rehearsal.specs.Glossaries.{namings}
@@ -7,7 +7,4 @@ use Rattle.rehearsal.proofs.glossary.Glossary.names_of.Given as goal
 
 abbrev pub invariant-loop-text : goal.invariant-loop-text
 invariant-loop-text l =
-    names_in (left l.initial.texts) (namings l.self) ≡ behind (vec_items l.names) (names_in (left l.texts) (namings l.self))
-
-abbrev pub decreases-loop-text : goal.decreases-loop-text
-decreases-loop-text l = length (left l.texts)
+    names_in (left l.fn.texts) (namings l.self) ≡ behind (vec_items l.names) (names_in (left l.text-iterator) (namings l.self))

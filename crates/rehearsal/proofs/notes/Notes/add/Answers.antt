@@ -1,14 +1,8 @@
 use Rattle.std.proofs.Common.{vec_items, refl}
-use Rattle.std.proofs.lemmas.List.{length-set}
 use Rattle.rehearsal.proofs.Noting.{noted_signed, inserted}
 use Rattle.rehearsal.proofs.notes.Notes.add.Goals as goal
 
-pub returns-in-Some : goal.returns-in-Some
-returns-in-Some c =
-    let notes = vec_items c.args.self.now.notes in
-    record {
-      long = length-set notes c.args.name _;
-      noted = λ ss done within small noted.
-          noted_signed ss done notes c.args.name within c.in-Some.note.now c.in-Some.ensures.value noted c.args.member _
-          (inserted c.args.member _ _ c.insert.result small c.insert.ensures) refl;
-    }
+pub returns-clause-noted : goal.returns-clause-noted
+returns-clause-noted c ss done small noted =
+    noted_signed ss done (vec_items c.args.self.now.notes) c.args.name c.requires c.index_mut-note.result.now c.index_mut-note.ensures.value noted
+    c.args.member _ (inserted c.args.member _ _ c.insert.result small c.insert.ensures) refl

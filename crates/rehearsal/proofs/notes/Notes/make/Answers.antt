@@ -1,12 +1,7 @@
 use Rattle.std.proofs.Common.{vec_items}
-use Rattle.std.proofs.lemmas.List.{length-set}
 use Rattle.rehearsal.proofs.Noting.{noted_made}
 use Rattle.rehearsal.proofs.notes.Notes.make.Goals as goal
 
-pub returns-in-Some : goal.returns-in-Some
-returns-in-Some c =
-    let notes = vec_items c.args.self.now.notes in
-    record {
-      long = length-set notes c.args.name _;
-      noted = λ ss done within noted. noted_made ss done notes c.args.name within c.in-Some.note.now c.in-Some.ensures.value noted;
-    }
+pub returns-clause-noted : goal.returns-clause-noted
+returns-clause-noted c ss done noted =
+    noted_made ss done (vec_items c.args.self.now.notes) c.args.name c.requires c.index_mut.result.now c.index_mut.ensures.value noted
