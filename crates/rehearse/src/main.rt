@@ -1,10 +1,8 @@
 // `rehearse F SCRIPT` plays a whole committee from a script.
 #![tactic(auto)]
 
-use anyhow::anyhow;
-use lines::numbers::number;
-use members::Faults;
-use rehearsal::play;
+use anyhow::{anyhow, bail};
+use rehearsal::{faults_of, play};
 use std::env;
 use std::fs::File;
 
@@ -26,17 +24,6 @@ Plays a committee of 3 F + 1 members, 0 to 3 F, of which at most F are bad (F is
 A line that may not happen, or that is none of these, prints no and changes nothing. Empty lines are passed over.
 ";
 
-/// The committee that a number asks for.
-fn committee(text: &str) -> anyhow::Result<Faults> {
-    let Some(f) = number(text.as_bytes()) else {
-        return Err(anyhow!(USAGE));
-    };
-    match Faults::new(f) {
-        Ok(faults) => Ok(faults),
-        Err(_) => Err(anyhow!(USAGE)),
-    }
-}
-
 fn run(rt: &HostRuntime) -> anyhow::Result<()> {
     let mut args = env::args(rt)?;
     let _program = args.next();
@@ -49,20 +36,19 @@ fn run(rt: &HostRuntime) -> anyhow::Result<()> {
             rt.print(HELP)?;
             return Ok(());
         }
-        return Err(anyhow!(USAGE));
+        bail!(USAGE);
     };
     if args.next().is_some() {
-        return Err(anyhow!(USAGE));
+        bail!(USAGE);
     }
-    let faults = committee(first.as_str())?;
+    let faults = faults_of(first.as_str()).map_err(|_| anyhow!(USAGE))?;
     if script.as_str() == "-" {
         play(rt, faults, rt.stdin())?;
         return Ok(());
     }
-    match File::open(rt, script.as_str()) {
-        Ok(file) => play(rt, faults, file)?,
-        Err(_) => return Err(anyhow!("the script {script} can't be read")),
-    }
+    let file = File::open(rt, script.as_str())
+        .map_err(|_| anyhow!("the script {script} can't be read"))?;
+    play(rt, faults, file)?;
     Ok(())
 }
 

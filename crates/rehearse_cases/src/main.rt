@@ -2,24 +2,12 @@
 // what it prints. Its stored run holds the cases of the protocol.
 #![tactic(auto)]
 
-use anyhow::anyhow;
-use lines::numbers::number;
-use members::Faults;
-use rehearsal::play;
+use anyhow::{anyhow, bail};
+use rehearsal::{faults_of, play};
 use std::env;
 use std::fs::File;
 
 const USAGE: &str = "usage: rehearse_cases F SCRIPT F SCRIPT ..";
-
-fn committee(text: &str) -> anyhow::Result<Faults> {
-    let Some(f) = number(text.as_bytes()) else {
-        return Err(anyhow!(USAGE));
-    };
-    match Faults::new(f) {
-        Ok(faults) => Ok(faults),
-        Err(_) => Err(anyhow!(USAGE)),
-    }
-}
 
 fn run(rt: &HostRuntime) -> anyhow::Result<()> {
     let mut args = env::args(rt)?;
@@ -29,9 +17,9 @@ fn run(rt: &HostRuntime) -> anyhow::Result<()> {
             break;
         };
         let Some(script) = args.next() else {
-            return Err(anyhow!(USAGE));
+            bail!(USAGE);
         };
-        let faults = committee(first.as_str())?;
+        let faults = faults_of(first.as_str()).map_err(|_| anyhow!(USAGE))?;
         println!(rt; "# {script}")?;
         play(rt, faults, File::open(rt, script.as_str())?)?;
     }
