@@ -1,22 +1,18 @@
 -- Secrets read line by line: what those so far and the lines left give together.
 -- Assumes nothing.
 
-use Rattle.std.proofs.Common.{◌≡◌, ℕ, zero, suc, ◌+◌, ◌<◌, List, [], ◌∷◌, ◌++◌, length, Some, None, Ok, Err, Option, Result, sym, refl, ap, ◌∙◌, inr, append_assoc, append-nil, arith}
+use Rattle.std.proofs.Common.{◌≡◌, ℕ, zero, suc, ◌+◌, ◌<◌, List, [], ◌∷◌, ◌++◌, length, Some, None, Ok, Err, Option, Result, sym, refl, ap, ◌∙◌, append_assoc, arith}
 use Rattle.std.specs.Option.{option_map, ok_or}
 use Rattle.scheme.specs.declared.keys.Secret.{Secret}
 use Rattle.scheme.specs.declared.keys.Secrets.{Secrets}
 use Rattle.scheme.specs.declared.keys.KeysError.{KeysError}
-use Rattle.scheme.specs.declared.keys.KeysError.TheVariants.{NotASecret, Missing, TooMany, OutOfMemory}
-use Rattle.scheme.specs.Keys.{secret_of, first_line, after_line, on_line, parsed, left, Gives, Fails}
+use Rattle.scheme.specs.declared.keys.KeysError.TheVariants.{NotASecret, Missing, TooMany}
+use Rattle.scheme.specs.Keys.{secret_of, first_line, after_line, on_line, parsed, left, Gives}
 
 -- Secrets before those that lines give, if they give any.
 abbrev pub added : List (List ℕ) → Result (List (List ℕ)) KeysError → Result (List (List ℕ)) KeysError
 added secrets (Ok more) = Ok (secrets ++ more)
 added secrets (Err e) = Err e
-
-pub added_none : (others : Result (List (List ℕ)) KeysError) → others ≡ added [] others
-added_none (Ok more) = refl
-added_none (Err e) = refl
 
 -- A text with a line to read.
 pub parsed_line : (k n : ℕ) (r : List ℕ) → 0 < length r → parsed k (suc n) r ≡ on_line k (secret_of (first_line r)) (parsed (k + 1) n (after_line r))
@@ -64,23 +60,3 @@ gives_line s t (Some secret) e = e
 pub added_one : (k : ℕ) (done : List (List ℕ)) (secret : List ℕ) (all here others : Result (List (List ℕ)) KeysError)
     → all ≡ added done here → here ≡ on_line k (Some secret) others → all ≡ added (done ++ (secret ∷ [])) others
 added_one k done secret all here others so_far e = so_far ∙ ap (added done) e ∙ added_line k done secret others
-
--- The end of the lines: the secrets are those that were read.
-pub added_all : (done : List (List ℕ)) (all here : Result (List (List ℕ)) KeysError) → all ≡ added done here → here ≡ Ok [] → all ≡ Ok done
-added_all done all here so_far e = so_far ∙ ap (added done) e ∙ ap Ok (append-nil done)
-
--- An error ends them.
-pub added_error : (done : List (List ℕ)) (e : KeysError) (all here : Result (List (List ℕ)) KeysError) → all ≡ added done here → here ≡ Err e → all ≡ Err e
-added_error done e all here so_far is = so_far ∙ ap (added done) is
-
--- A text that gives secrets can't be read for want of memory alone.
-pub read_fails :
-    (e : KeysError) (given : Result (List (List ℕ)) KeysError) (secrets : List (List ℕ)) → given ≡ Ok secrets → ((e ≡ OutOfMemory → ⊥) → given ≡ Err e) →
-    Fails e given
-read_fails OutOfMemory given secrets right h = inr (refl, secrets, right)
-read_fails (NotASecret k) given secrets right h =
-    let wrong = h (λ q. let z : ◌≡◌ {A = ℕ} 0 1 = cc in omega arith) in let z : ◌≡◌ {A = ℕ} 0 1 = cc in absurd (omega arith)
-read_fails (Missing k) given secrets right h =
-    let wrong = h (λ q. let z : ◌≡◌ {A = ℕ} 0 1 = cc in omega arith) in let z : ◌≡◌ {A = ℕ} 0 1 = cc in absurd (omega arith)
-read_fails (TooMany k) given secrets right h =
-    let wrong = h (λ q. let z : ◌≡◌ {A = ℕ} 0 1 = cc in omega arith) in let z : ◌≡◌ {A = ℕ} 0 1 = cc in absurd (omega arith)

@@ -10,9 +10,6 @@ use Rattle.scheme.specs.Keys.{secret_of, first_line, after_line, on_line, parsed
 use Rattle.scheme.specs.Written.{written, unended, AreBytes, AreSecrets, ReadsBack, ReadsBackUnended, OnlyWritten}
 use Rattle.scheme.proofs.Committee.{parsed_line}
 
-some_inj : {A : Type 0} (a b : A) → Some a ≡ Some b → a ≡ b
-some_inj a b e = cc
-
 none_some : {A : Type 0} (a : A) → None ≡ Some a → ⊥
 none_some a e = let z : ◌≡◌ {A = ℕ} 0 1 = cc in omega arith
 

@@ -1,7 +1,7 @@
 -- Bytes added to the string of a state: several pieces one after the other, and eight bytes at once as a lane.
 -- The bytes are below 256, and the lane lies in the state.
 
-use Rattle.std.proofs.Common.{◌≡◌, ℕ, zero, suc, ◌+◌, ◌*◌, ◌/◌, ◌%◌, ◌^◌, ◌<◌, ◌≤◌, ◌⊎◌, List, [], ◌∷◌, ◌++◌, length, get_or, take, drop, set, sym, refl, ap, ⊎_elim, ◌∙◌, lt_of_lt_of_le, add-zero, add_assoc, add_comm, add-one, arith, lit<, length-set, drop_of_length-le, drop-cons, drop-drop, get_or-set_same, set-set, pow_mono}
+use Rattle.std.proofs.Common.{◌≡◌, ℕ, zero, suc, ◌+◌, ◌*◌, ◌/◌, ◌%◌, ◌^◌, ◌<◌, ◌≤◌, ◌⊎◌, List, [], ◌∷◌, ◌++◌, length, get_or, take, drop, set, sym, refl, ap, ⊎_elim, ◌∙◌, lt_of_lt_of_le, add-zero, add_assoc, add_comm, add-one, arith, lit<, drop_of_length-le, drop-cons, drop-drop, get_or-set_same, set-set, pow_mono}
 use lib.Seq.{set-get_or}
 use lib.Bits.{bit_xor, xor_assoc, xor_comm, xor_shifted, xor_zero_r}
 use Rattle.std.specs.Simd.{first_chunks}
@@ -19,11 +19,6 @@ pub add_bytes-++ : (s : List ℕ) (i : ℕ) (xs ys : List ℕ) → add_bytes s i
 unfolding add_bytes
 add_bytes-++ s i [] ys = rw add-zero
 add_bytes-++ s i (x ∷ xs) ys = add_bytes-++ (add_byte s i x) (i + 1) xs ys ∙ ap (λ k. add_bytes (add_bytes s i (x ∷ xs)) k ys) (omega arith)
-
-pub length-add_bytes : (s : List ℕ) (i : ℕ) (bs : List ℕ) → length (add_bytes s i bs) ≡ length s
-unfolding add_bytes
-length-add_bytes s i [] = refl
-length-add_bytes s i (b ∷ bs) = length-add_bytes (add_byte s i b) (i + 1) bs ∙ length-set s (i / 8) _
 
 -- One more byte of lane q, above the i bytes in acc that were added before.
 placed : (s : List ℕ) (q g acc i b : ℕ) → q < length s → i < 8 → acc < 2 ^ (8 * i)

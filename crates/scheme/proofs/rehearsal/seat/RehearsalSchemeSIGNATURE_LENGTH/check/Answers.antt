@@ -1,10 +1,10 @@
-use Rattle.std.proofs.Common.{◌≡◌, ℕ, ◌<◌, ◌≤◌, List, length, get_or, vec_items, sym, ap, ◌∙◌, subst}
+use Rattle.std.proofs.Common.{◌≡◌, ℕ, ◌<◌, List, length, get_or, vec_items, sym, ap, ◌∙◌, subst}
 use lib.ListN.{length-map}
 use Rattle.scheme.specs.declared.keys.Secret.{Secret}
 use Rattle.scheme.specs.Bytes.{same}
 use Rattle.scheme.specs.Keys.{keys_of}
 use Rattle.scheme.specs.Rehearsal.{secret_at, right_for}
-use Rattle.scheme.proofs.Members.{secret_at_lem, right_there, wrong_absent, right_member, right_long}
+use Rattle.scheme.proofs.Members.{secret_at_lem, right_there, right_long}
 use Rattle.scheme.proofs.rehearsal.seat.RehearsalSchemeSIGNATURE_LENGTH.check.Goals as goal
 
 abbrev bytes : Secret → List ℕ
@@ -29,21 +29,4 @@ returns-in-Some c =
       value = value;
       long = λ e. right_long ks m x given (sym value ∙ e);
       there = λ e. there;
-    }
-
-pub returns-in-None : goal.returns-in-None
-returns-in-None c =
-    let items : List Secret = vec_items c.args.self.now.keys.secrets in
-    let ks : List (List ℕ) = keys_of c.args.self.now.keys in
-    let m : ℕ = c.args.member in
-    let x : List ℕ = c.args.message.now in
-    let given : List ℕ = c.args.signature.now in
-    let found = c.in-None.ensures.lookup in
-    let beyond : length items ≤ m = subst (λ (xs : List Secret). length xs ≤ m) c.deref.ensures.value found.3 in
-    let absent : length ks ≤ m = subst (λ (n : ℕ). n ≤ m) (sym (length-map items bytes)) beyond in
-    let value = wrong_absent ks m x given absent in
-    record {
-      value = value;
-      long = λ e. right_long ks m x given (sym value ∙ e);
-      there = λ e. right_member ks m x given (sym value ∙ e);
     }
