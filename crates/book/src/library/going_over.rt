@@ -4,14 +4,14 @@ ghost use Rattle.std.specs.Iterator.{YieldsFirst, item_count};
 
 use crate::library::Library;
 use std::marker::Model;
+use std::ops::Range;
 
-/// The names of a block's parents, in order; clauses see the list of those that are still to come. The number of parents is read once.
+/// The names of a block's parents, in order; clauses see the list of those that are still to come.
 #[derive(Drop)]
 pub struct Parents<'a, B: Library> {
     book: &'a B,
     name: u32,
-    at: u32,
-    end: u32,
+    places: Range<u32>,
 }
 
 impl<'a, B: Library> Model for Parents<'a, B> {
@@ -19,9 +19,9 @@ impl<'a, B: Library> Model for Parents<'a, B> {
 
     ghost Value = { List ℕ };
 
-    ghost view = { λ p. drop p.at (B.Library.what p.book.now p.name).parents };
+    ghost view = { λ p. drop p.places.start (B.Library.what p.book.now p.name).parents };
 
-    ghost invariant = { λ p. p.end ≡ length (B.Library.what p.book.now p.name).parents };
+    ghost invariant = { λ p. (p.places.start ≤ p.places.end) × (p.places.end ≡ length (B.Library.what p.book.now p.name).parents) };
 }
 
 /// The names of the parents of this block.
@@ -31,8 +31,7 @@ pub fn parents_of<B: Library>(book: &B, name: u32) -> Parents<'_, B>
     Parents {
         book,
         name,
-        at: 0,
-        end: book.parents(name),
+        places: 0..book.parents(name),
     }
 }
 
@@ -44,11 +43,7 @@ impl<B: Library> Iterator for Parents<'_, B> {
     ghost remaining = { item_count (λ rest. rest) };
 
     fn next(&mut self) -> Option<u32> {
-        if self.at >= self.end {
-            return None;
-        }
-        let parent = self.book.parent(self.name, self.at);
-        self.at += 1;
-        Some(parent)
+        let place = self.places.next()?;
+        Some(self.book.parent(self.name, place))
     }
 }
