@@ -1,7 +1,7 @@
 -- The string of a state byte by byte, and the bytes that a sponge gives, block by block.
 -- Nothing is assumed of the state's lanes.
 
-use Rattle.std.proofs.Common.{◌≡◌, ℕ, zero, suc, ◌+◌, ◌-◌, ◌*◌, ◌/◌, ◌%◌, ◌^◌, ◌<◌, ◌≤◌, List, [], ◌∷◌, ◌++◌, length, get_or, get_or-take, take, drop, set, sym, refl, ap, ◌∙◌, append_assoc, mod-lt, suc-mul, add-mul, one-mul, div-add-mod', zero-mul, div-one, add-one, arith, length-take, length-take-le, drop-cons, drop_of_length-le, append-nil, length-set, take_all}
+use Rattle.std.proofs.Common.{◌≡◌, ℕ, zero, suc, ◌+◌, ◌-◌, ◌*◌, ◌/◌, ◌%◌, ◌^◌, ◌<◌, ◌≤◌, List, [], ◌∷◌, ◌++◌, length, get_or, get_or-take, take, drop, set, sym, refl, ap, ◌∙◌, append_assoc, mod-lt, suc-mul, add-mul, one-mul, div-add-mod', zero-mul, div-one, add-one, arith, length-take, length-take-le, drop-cons, drop_of_length-le, length-set}
 use native.Mathlib.Nat.{zero-div, zero-mod}
 use Rattle.std.proofs.lemmas.List.{take_more_set}
 use Rattle.sha3.specs.Keccak.{keccak}
@@ -93,11 +93,3 @@ left_byte r i at v all out s h inside long is (k, e, enough) =
           ∙ ap (λ m. take (i + 1) (set out i v) ++ take (m - (i + 1)) rest) (sym same),
       fewer,
     )
-
--- The end: no more bytes are wanted.
-pub left-none : (r i at : ℕ) (all out s : List ℕ) → length out ≤ i → Left r all i at out s → out ≡ all
-left-none r i at all out s h (k, e, enough) =
-    let none : length out - i ≡ 0 = omega arith in
-    sym
-    (e ∙ ap (λ m. take i out ++ take m (drop at (take r (bytes_of s)) ++ blocks r k (keccak s))) none
-    ∙ append-nil (take i out) ∙ take_all i out h)

@@ -1,12 +1,8 @@
-use Rattle.std.proofs.Common.{◌≡◌, ◌+◌, ◌*◌, ◌/◌, ◌<◌, ◌≤◌, [], length, get_or, take, drop, set, sym, ap, ◌∙◌, add-zero, arith, length-set}
+use Rattle.std.proofs.Common.{◌≡◌, ◌+◌, ◌*◌, ◌/◌, ◌<◌, ◌≤◌, [], length, get_or, take, drop, set, sym, ap, ◌∙◌, arith, length-set}
 use lib.Bits.{bit_xor}
 use Rattle.sha3.specs.Sponge.{add_bytes}
 use Rattle.sha3.proofs.Bytes.{lanes_more, none_left, word_at, chunk_word, chunk_at}
 use Rattle.sha3.proofs.sponge.add_lanes.Goals as goal
-
-pub loop-i-init : goal.loop-i-init
-loop-i-init c =
-    (ap (λ k. add_bytes c.args.state.now (8 * k) c.args.bytes.now) (sym (add-zero c.args.lane)), c.told-state)
 
 pub loop-i-preserved : goal.loop-i-preserved
 loop-i-preserved c =

@@ -1,10 +1,7 @@
-use Rattle.std.proofs.Common.{◌+◌, drop, sym, ap, ◌∙◌, add-zero}
+use Rattle.std.proofs.Common.{◌+◌, drop, sym, ap, ◌∙◌}
 use Rattle.sha3.specs.Sponge.{add_bytes}
 use Rattle.sha3.proofs.Bytes.{singly_more, none_left}
 use Rattle.sha3.proofs.sponge.add_singly.Goals as goal
-
-pub loop-i-init : goal.loop-i-init
-loop-i-init c = ap (λ k. add_bytes c.args.state.now k c.args.bytes.now) (sym (add-zero c.args.at))
 
 pub loop-i-preserved : goal.loop-i-preserved
 loop-i-preserved c =

@@ -2,7 +2,7 @@ use Rattle.std.proofs.Common.{◌≡◌, ◌<◌, ◌≤◌, List, ℕ, length, 
 use Rattle.sha3.specs.Keccak.{keccak}
 use Rattle.sha3.specs.Sponge.{bytes_of, squeezed}
 use Rattle.sha3.proofs.Feeding.{length-keccak}
-use Rattle.sha3.proofs.Squeezing.{Left, left_all, left_block, left_byte, left-none, length-bytes_of}
+use Rattle.sha3.proofs.Squeezing.{Left, left_all, left_block, left_byte, length-bytes_of}
 use Rattle.sha3.proofs.sponge.Sponge.squeeze.Goals as goal
 use Rattle.sha3.proofs.sponge.Sponge.squeeze.Goals.{then-at-self, else-at-self}
 
@@ -46,10 +46,3 @@ loop-byte-preserved c =
       lanes = λ h. ready.2;
       left = left_byte r i c.if-at-self.at c.byte_of.result all out c.if-at-self.self.state more ready.1 long c.byte_of.ensures ready.3;
     }
-
-pub returns : goal.returns
-returns c =
-    let r = c.args.self.now.rate in
-    let all : List ℕ = squeezed r (length c.args.out.now) (keccak c.args.self.now.state) in
-    let none : length c.loop-byte.out ≤ c.loop-byte.byte-index = omega (arith, c.loop-byte.auto.out, c.loop-byte-test.false) in
-    left-none r c.loop-byte.byte-index c.loop-byte.at all c.loop-byte.out c.loop-byte.self.state none c.loop-byte.invariant.left
