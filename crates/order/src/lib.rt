@@ -2,31 +2,18 @@
 // the web by rounds and authors, and no sorting or search by name is needed.
 #![tactic(auto)]
 
-ghost use Rattle.std.specs.Prelude.{◌≡◌, ◌<◌, ◌≤◌, length};
-ghost use Rattle.model.specs.Thresholds.{members};
-ghost use Rattle.model.specs.Order.{order};
+ghost use Rattle.std.specs.Prelude.{◌≡◌, length};
+ghost use Rattle.model.specs.Order.{last_round, order};
 ghost use Rattle.model.specs.Seat.{padded};
 ghost use Rattle.model.specs.Reading.{Readable};
 
-use crate::anchors::{last_round, last_voted, mark_from};
-use crate::listing::write_from;
-use crate::tables::{PLACES, enter};
+use crate::grid::Grid;
 use book::library::Library;
 use members::Faults;
 
-mod anchors;
-mod listing;
+mod grid;
 mod tables;
-
-// How many places a row of the tables has: one for each member.
-#[tactic(auto, unfolding(model::specs::Thresholds::members))]
-fn width_of(faults: Faults) -> usize
-    ensures width { result ≡ members faults.f }
-    ensures some { 0 < result }
-    ensures few { result ≤ 13 }
-{
-    faults.members() as usize
-}
+mod width;
 
 /// The names of the order at the front of `out`, noughts behind them, and how many they are.
 pub fn read_order<B: Library>(book: &B, faults: Faults, web: &[u32], out: &mut [u32; 4096]) -> u32
@@ -35,17 +22,19 @@ pub fn read_order<B: Library>(book: &B, faults: Faults, web: &[u32], out: &mut [
     ensures listed { out.new ≡ padded 4096 (order faults.f (B.Library.what book.now) web.now) }
 {
     *out = [0; 4096];
-    let f = faults.most_bad();
-    let members = width_of(faults);
-    let mut names = [0; PLACES];
-    let mut marks = [0; PLACES];
-    enter(book, members, web, &mut names, &mut marks);
-    let rounds = last_round(book, web) as usize / 2 + 1;
-    match last_voted(book, f, members, &names, &marks, rounds) {
+    let mut grid = Grid::of(book, faults, web);
+    match grid.last_voted(faults, last_round(book, web)) {
         None => 0,
         Some(k) => {
-            let anchors = mark_from(book, members, k, &names, &mut marks);
-            write_from(&names, &marks, anchors, out)
+            let anchors = grid.mark_from(k);
+            grid.write(anchors, out)
         }
     }
+}
+
+// the latest round in the web
+fn last_round<B: Library>(book: &B, web: &[u32]) -> u32
+    ensures { result ≡ last_round (B.Library.what book.now) web.now }
+{
+    web.iter().fold(0, |last, name| last.max(book.round(*name)))
 }

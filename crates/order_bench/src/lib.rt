@@ -14,7 +14,7 @@ use order::read_order;
 
 /// A block: its author and round, where its parents start, and how many there are.
 #[repr(C)]
-#[derive(Clone, Copy)]
+#[derive(Clone, Copy, Default)]
 pub struct Entry {
     author: u32,
     round: u32,
@@ -22,32 +22,19 @@ pub struct Entry {
     count: u32,
 }
 
+// an empty block's, for a name that isn't there
 fn entry_of(entries: &[Entry], name: u32) -> Entry
     ensures { result ≡ get_or entries.now name no_entry }
 {
-    if (name as usize) < entries.len() {
-        entries[name as usize]
-    } else {
-        Entry {
-            author: 0,
-            round: 0,
-            start: 0,
-            count: 0,
-        }
-    }
-}
-
-fn at(table: &[u32], place: usize) -> u32
-    ensures { result ≡ get_or table.now place 0 }
-{
-    if place < table.len() { table[place] } else { 0 }
+    entries.get(name as usize).copied().unwrap_or_default()
 }
 
 fn parent_at(all: &[u32], block: Entry, place: u32) -> u32
     ensures { result ≡ get_or (block_of all.now block).parents place 0 }
 {
     if place < block.count {
-        at(all, block.start as usize + place as usize)
+        let at = block.start as usize + place as usize;
+        all.get(at).copied().unwrap_or(0)
     } else {
         0
     }
@@ -80,13 +67,6 @@ impl<'a> Library for Slices<'a> {
     }
 }
 
-fn committee_of(f: u32) -> Faults
-    requires { f ≤ 4 }
-    ensures { result.f ≡ f }
-{
-    Faults::new(f).unwrap()
-}
-
 /// The order of the web, at the front of `out`, and how long it is.
 #[unsafe(no_mangle)]
 pub extern "C" fn order_read<'a>(
@@ -105,5 +85,6 @@ pub extern "C" fn order_read<'a>(
     ensures listed { out.new ≡ padded 4096 (order f (sliced entries.now all.now) web.now) }
 {
     let book = Slices { entries, all };
-    read_order(&book, committee_of(f), web, out)
+    let faults = Faults::try_from(f).unwrap();
+    read_order(&book, faults, web, out)
 }

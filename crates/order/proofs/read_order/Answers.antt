@@ -1,5 +1,5 @@
-use Rattle.std.proofs.Common.{ℕ, ◌+◌, ◌/◌, Some, None, ap, ◌∙◌}
-use Rattle.order_theory.specs.Tables.{marked_from, written_from}
+use Rattle.std.proofs.Common.{ℕ, ◌+◌, ◌/◌, Some, None, sym, ap, ◌∙◌}
+use Rattle.order_theory.specs.Tables.{last_voted_at, marked_from, written_from}
 use Rattle.order_theory.proofs.Places.{noughts}
 use Rattle.order_theory.proofs.Steps.{marked_is}
 use Rattle.order_theory.proofs.Main.{written_by_lem}
@@ -7,30 +7,39 @@ use Rattle.order.proofs.read_order.Goals as goal
 
 pub returns-in-None : goal.returns-in-None
 returns-in-None g c =
+    let what = g.B.Library.what in
     let f = c.args.faults.f in
-    let b = g.B.Library.what c.args.book.now in
-    let web = c.args.web.now in
+    let grid = c.of-grid.result in
+    let is = c.of-grid.ensures in
+    let n = grid.width.places in
+    let rounds = c.last_round.result / 2 + 1 in
     let r =
-    written_by_lem f b web c.requires.whole c.requires.once c.requires.fits c.args.faults.few c.requires.room c.width_of-members.result
-    c.enter.new.names c.enter.new.marks
-    (c.last_round.result / 2 + 1) None c.width_of-members.ensures.width c.enter.ensures.named c.enter.ensures.marked
-    (ap (λ (k : ℕ). k / 2 + 1) c.last_round.ensures) (cc (c.in-None.ensures.last, c.most_bad-f.ensures)) in
+    written_by_lem f (what c.args.book.now) c.args.web.now c.requires.whole c.requires.once c.requires.fits c.args.faults.few c.requires.room n
+    grid.names grid.marks rounds None is.width is.names is.marks (ap (λ (k : ℕ). k / 2 + 1) c.last_round.ensures)
+    (c.in-None.ensures.last ∙ ap (λ k. last_voted_at f n (what k) grid.names grid.marks rounds) is.book) in
     record { count = ap (λ w. w.count) r; listed = ap (λ w. w.out) r }
 
 pub returns-in-Some : goal.returns-in-Some
 returns-in-Some g c =
+    let what = g.B.Library.what in
     let f = c.args.faults.f in
-    let n = c.width_of-members.result in
-    let b = g.B.Library.what c.args.book.now in
-    let web = c.args.web.now in
-    let names = c.enter.new.names in
-    let marks = c.enter.new.marks in
+    let k = c.in-Some.k in
+    let grid = c.of-grid.result in
+    let is = c.of-grid.ensures in
+    let n = grid.width.places in
+    let rounds = c.last_round.result / 2 + 1 in
     let r =
-    written_by_lem f b web c.requires.whole c.requires.once c.requires.fits c.args.faults.few c.requires.room n names marks
-    (c.last_round.result / 2 + 1) (Some c.in-Some.k) c.width_of-members.ensures.width c.enter.ensures.named c.enter.ensures.marked
-    (ap (λ (k : ℕ). k / 2 + 1) c.last_round.ensures) (cc (c.in-Some.ensures.last, c.most_bad-f.ensures)) in
-    let t =
-    marked_is (marked_from n b c.in-Some.k names marks) c.mark_from-anchors.new.marks c.mark_from-anchors.result
-    c.mark_from-anchors.ensures.marks c.mark_from-anchors.ensures.anchors in
-    let s = ap (λ t. written_from names t (noughts 4096)) t ∙ r in
-    record { count = c.write_from.ensures.count ∙ ap (λ w. w.count) s; listed = c.write_from.ensures.out ∙ ap (λ w. w.out) s }
+    written_by_lem f (what c.args.book.now) c.args.web.now c.requires.whole c.requires.once c.requires.fits c.args.faults.few c.requires.room n
+    grid.names grid.marks rounds (Some k) is.width is.names is.marks (ap (λ (k : ℕ). k / 2 + 1) c.last_round.ensures)
+    (c.in-Some.ensures.last ∙ ap (λ k. last_voted_at f n (what k) grid.names grid.marks rounds) is.book) in
+    let after = c.mark_from-anchors.ensures in
+    let marked = c.mark_from-anchors.new.self in
+    let u =
+    marked_is (marked_from n (what grid.book.now) k grid.names grid.marks) marked.marks c.mark_from-anchors.result
+    (ap (λ v. v.marks) after.marks) after.anchors
+    ∙ ap (λ v. marked_from n (what v) k grid.names grid.marks) is.book in
+    let w =
+    sym c.write.ensures
+    ∙ (ap (λ v. written_from v (record { marks = marked.marks; anchors = c.mark_from-anchors.result }) (noughts 4096)) (ap (λ v. v.names) after.marks)
+    ∙ (ap (λ v. written_from grid.names v (noughts 4096)) u ∙ r)) in
+    record { count = ap (λ v. v.count) w; listed = ap (λ v. v.out) w }

@@ -1,0 +1,107 @@
+// The marks, which tell which of the anchors reaches a block first.
+ghost use Rattle.std.specs.Prelude.{◌≡◌, ◌+◌, ◌-◌, ◌*◌, ◌/◌, ◌%◌, ◌^◌, ◌<◌, ◌≤◌};
+ghost use Rattle.order_theory.specs.Tables.{raised_all, handed_on, row_handed_on, leader_tested, one_row, marked_from};
+
+use super::Grid;
+use crate::tables::{at, put, raise};
+use book::library::Library;
+
+impl<B: Library> Grid<'_, B> {
+    // makes the marks of a block's parents this one, where they were lower
+    fn raise_parents(&mut self, name: u32, mark: u32)
+        ensures { self.new ≡ record self.old {
+          marks
+              = raised_all self.old.width.places (B.Library.what self.old.book.now) mark (B.Library.what self.old.book.now name).parents self.old.marks;
+        } }
+    {
+        // places of parents, and not `parents_of`: with it the order took a third longer
+        for at in 0..self.book.parents(name) {
+            let place = self.width.place_of(self.book, self.book.parent(name, at));
+            raise(&mut self.marks, place, mark);
+        }
+    }
+
+    // the block at a place hands its mark on to its parents
+    fn hand_on(&mut self, place: usize)
+        ensures { self.new ≡ record self.old {
+          marks
+              = handed_on self.old.width.places (B.Library.what self.old.book.now) self.old.names place self.old.marks;
+        } }
+    {
+        let mark = at(&self.marks, place);
+        if mark > 1 {
+            let name = at(&self.names, place);
+            self.raise_parents(name, mark);
+        }
+    }
+
+    // the blocks of a round do so
+    fn hand_on_row(&mut self, round: u32)
+        ensures { self.new ≡ record self.old {
+          marks
+              = row_handed_on self.old.width.places (B.Library.what self.old.book.now) self.old.names (round * self.old.width.places)
+              self.old.width.places self.old.marks;
+        } }
+    {
+        let row = self.width.row(round);
+        for i in (0..self.width.places()).rev() {
+            self.hand_on(row + i);
+        }
+    }
+
+    // the leader's block of an even round is the next anchor if the anchor found last reaches it
+    fn test_leader(&mut self, round: u32, anchors: u32) -> u32
+        requires { anchors ≤ 2 ^ 31 }
+        ensures anchors { result ≡ (leader_tested (round * self.old.width.places + round / 2 % self.old.width.places)
+            (record { marks = self.old.marks; anchors = anchors })).anchors }
+        ensures marks { self.new ≡ record self.old {
+          marks = (leader_tested (round * self.old.width.places + round / 2 % self.old.width.places)
+              (record { marks = self.old.marks; anchors = anchors })).marks;
+        } }
+    {
+        let place = self.width.leader(round);
+        if at(&self.marks, place) == anchors + 1 {
+            put(&mut self.marks, place, anchors + 2);
+            anchors + 1
+        } else {
+            anchors
+        }
+    }
+
+    // a round: the leader is tested, if it is even, and then its blocks hand on their marks
+    fn one_row(&mut self, round: u32, anchors: u32) -> u32
+        requires { anchors ≤ 2 ^ 31 }
+        ensures anchors { result ≡ (one_row self.old.width.places (B.Library.what self.old.book.now) self.old.names round
+            (record { marks = self.old.marks; anchors = anchors })).anchors }
+        ensures marks { self.new ≡ record self.old {
+          marks = (one_row self.old.width.places (B.Library.what self.old.book.now) self.old.names round
+              (record { marks = self.old.marks; anchors = anchors })).marks;
+        } }
+        ensures small { result ≤ anchors + 1 - round % 2 }
+    {
+        let found = if round % 2 == 0 {
+            self.test_leader(round, anchors)
+        } else {
+            anchors
+        };
+        self.hand_on_row(round);
+        found
+    }
+
+    /// Goes back from round `2 * k`, whose leader's block is the last anchor, and returns how many anchors there are.
+    pub fn mark_from(&mut self, k: u32) -> u32
+        requires { k < 2 ^ 31 }
+        ensures anchors { result
+            ≡ (marked_from self.old.width.places (B.Library.what self.old.book.now) k self.old.names self.old.marks).anchors }
+        ensures marks { self.new ≡ record self.old {
+          marks
+              = (marked_from self.old.width.places (B.Library.what self.old.book.now) k self.old.names self.old.marks).marks;
+        } }
+    {
+        let mut anchors = 0;
+        for round in (0..2 * k + 1).rev() {
+            anchors = self.one_row(round, anchors);
+        }
+        anchors
+    }
+}

@@ -1,7 +1,0 @@
-use mathlib.Core.Path.{sym}
-use native.Mathlib.Omega.{arith}
-use lib.ListN.{get_or-eq_default}
-use Rattle.order_bench.proofs.at.Goals as goal
-
-pub returns-else-place-table : goal.returns-else-place-table
-returns-else-place-table c = sym (get_or-eq_default c.args.table.now 0 (omega arith))
