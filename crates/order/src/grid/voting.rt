@@ -31,7 +31,7 @@ impl<B: Library> Grid<'_, B> {
     }
 
     // how many of a round do
-    fn votes_in(&self, name: u32, round: u32) -> u32
+    pub(super) fn votes_in(&self, name: u32, round: u32) -> u32
         ensures { result
             ≡ votes_in (B.Library.what self.now.book.now) name self.now.names self.now.marks (round * self.now.width.places) self.now.width.places }
     {
