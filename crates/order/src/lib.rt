@@ -22,9 +22,10 @@ pub fn read_order<B: Library>(book: &B, faults: Faults, web: &[u32], out: &mut [
     ensures listed { out.new ≡ padded 4096 (order faults.f (B.Library.what book.now) web.now) }
 {
     *out = [0; 4096];
+    let last = last_round(book, web);
     let mut grid = Grid::new(book, faults);
     grid.enter(web);
-    match grid.last_voted(faults, last_round(book, web)) {
+    match grid.last_voted(faults, last) {
         None => 0,
         Some(k) => {
             let anchors = grid.mark_from(k);

@@ -14,10 +14,10 @@ returns-in-None g c =
     let new = c.new-grid.ensures in
     let is = entered what c.args.book.now f c.args.web.now c.new-grid.result grid new.book new.width new.names new.marks c.enter.ensures in
     let n = grid.width.places in
-    let rounds = c.last_round.result / 2 + 1 in
+    let rounds = c.last_round-last.result / 2 + 1 in
     let r =
     written_by_lem f (what c.args.book.now) c.args.web.now c.requires.whole c.requires.once c.requires.fits c.args.faults.few c.requires.room n
-    grid.names grid.marks rounds None is.width is.names is.marks (ap (λ (k : ℕ). k / 2 + 1) c.last_round.ensures)
+    grid.names grid.marks rounds None is.width is.names is.marks (ap (λ (k : ℕ). k / 2 + 1) c.last_round-last.ensures)
     (c.in-None.ensures.last ∙ ap (λ k. last_voted_at f n (what k) grid.names grid.marks rounds) is.same_book) in
     record { count = ap (λ w. w.count) r; listed = ap (λ w. w.out) r }
 
@@ -30,10 +30,10 @@ returns-in-Some g c =
     let new = c.new-grid.ensures in
     let is = entered what c.args.book.now f c.args.web.now c.new-grid.result grid new.book new.width new.names new.marks c.enter.ensures in
     let n = grid.width.places in
-    let rounds = c.last_round.result / 2 + 1 in
+    let rounds = c.last_round-last.result / 2 + 1 in
     let r =
     written_by_lem f (what c.args.book.now) c.args.web.now c.requires.whole c.requires.once c.requires.fits c.args.faults.few c.requires.room n
-    grid.names grid.marks rounds (Some k) is.width is.names is.marks (ap (λ (k : ℕ). k / 2 + 1) c.last_round.ensures)
+    grid.names grid.marks rounds (Some k) is.width is.names is.marks (ap (λ (k : ℕ). k / 2 + 1) c.last_round-last.ensures)
     (c.in-Some.ensures.last ∙ ap (λ k. last_voted_at f n (what k) grid.names grid.marks rounds) is.same_book) in
     let after = c.mark_from-anchors.ensures in
     let marked = c.mark_from-anchors.new.self in
