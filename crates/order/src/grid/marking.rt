@@ -14,7 +14,7 @@ impl<B: Library> Grid<'_, B> {
               = raised_all self.old.width.places (B.Library.what self.old.book.now) mark (B.Library.what self.old.book.now name).parents self.old.marks;
         } }
     {
-        // places of parents, and not `parents_of`: with it the order took a third longer
+        // places of parents, and not `parents_of`: with it the order of a full web took a quarter longer
         for at in 0..self.book.parents(name) {
             let place = self.width.place_of(self.book, self.book.parent(name, at));
             raise(&mut self.marks, place, mark);

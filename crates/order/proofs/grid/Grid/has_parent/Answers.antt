@@ -1,18 +1,25 @@
-use Rattle.std.proofs.Common.{sym, ◌∙◌, arith}
-use Rattle.order_theory.proofs.Steps.{in_here_more, in_more, in_end}
+use Rattle.std.proofs.Common.{◌≡◌, ℕ, ◌||◌, List, [], ◌∷◌, true, false, eqb, sym, ap, ◌∙◌}
+use Rattle.model.specs.Names.{is_in}
+use Rattle.model.proofs.Tools.{or_left, is_true, eq→eqb, not_eqb, is_false}
 use Rattle.order.proofs.grid.Grid.has_parent.Goals as goal
 
-pub returns-then-parent : goal.returns-then-parent
-returns-then-parent g c =
-    let parents = (g.B.Library.what c.args.self.now.book.now c.args.name).parents in
-    sym (c.loop-at.invariant ∙ in_here_more c.args.parent parents c.loop-at.at (omega arith) (sym c.parent.ensures ∙ c.if-parent.true))
+here : (x y : ℕ) (xs ys : List ℕ) → xs ≡ y ∷ ys → x ≡ y → is_in x xs ≡ true
+unfolding is_in
+here x y xs ys e h = ap (is_in x) e ∙ is_true (eqb x y || is_in x ys) (or_left (eqb x y) (is_in x ys) (eq→eqb x y h))
 
-pub loop-at-preserved : goal.loop-at-preserved
-loop-at-preserved g c =
-    let parents = (g.B.Library.what c.args.self.now.book.now c.args.name).parents in
-    c.loop-at.invariant ∙ in_more c.args.parent parents c.loop-at.at (omega arith) (λ e. c.if-parent.false (c.parent.ensures ∙ e))
+later : (x y : ℕ) (xs ys : List ℕ) → xs ≡ y ∷ ys → (x ≡ y → ⊥) → is_in x xs ≡ is_in x ys
+unfolding is_in
+later x y xs ys e n = ap (is_in x) e ∙ ap (λ c. c || is_in x ys) (is_false (eqb x y) (not_eqb x y n))
+
+nowhere : (x : ℕ) (xs : List ℕ) → xs ≡ [] → is_in x xs ≡ false
+unfolding is_in
+nowhere x xs e = ap (is_in x) e
+
+pub returns-then-parent-other : goal.returns-then-parent-other
+returns-then-parent-other g c = sym (c.loop-other.invariant ∙ here c.args.parent _ _ _ c.in-Some.ensures.steps c.if-parent-other.true)
+
+pub loop-other-preserved : goal.loop-other-preserved
+loop-other-preserved g c = c.loop-other.invariant ∙ later c.args.parent _ _ _ c.in-Some.ensures.steps c.if-parent-other.false
 
 pub returns : goal.returns
-returns g c =
-    let parents = (g.B.Library.what c.args.self.now.book.now c.args.name).parents in
-    sym (c.loop-at.invariant ∙ in_end c.args.parent parents c.loop-at.at (omega arith))
+returns g c = sym (c.loop-other.invariant ∙ nowhere c.args.parent _ c.in-None.ensures.steps.0)

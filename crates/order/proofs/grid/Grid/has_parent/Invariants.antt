@@ -1,8 +1,7 @@
-use Rattle.std.proofs.Common.{◌≡◌, drop}
+use Rattle.std.proofs.Common.{◌≡◌}
 use Rattle.model.specs.Names.{is_in}
 use Rattle.order.proofs.grid.Grid.has_parent.Given as goal
 
-abbrev pub invariant-loop-at : goal.invariant-loop-at
-invariant-loop-at g l =
-    let parents = (g.B.Library.what l.self.book.now l.name).parents in
-    is_in l.parent parents ≡ is_in l.parent (drop l.at parents)
+-- it is sought in the parents that are still to come
+abbrev pub invariant-loop-other : goal.invariant-loop-other
+invariant-loop-other g l = is_in l.parent (g.B.Library.what l.self.book.now l.name).parents ≡ is_in l.parent l.other-iterator
