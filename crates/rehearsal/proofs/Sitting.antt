@@ -1,11 +1,11 @@
 -- That the seats hold what the members should after a step of one. Assumes nothing.
-use Rattle.std.proofs.Common.{◌≡◌, ℕ, zero, suc, ◌+◌, ◌<◌, ◌≤◌, Bool, true, false, cond, ◌&&◌, T, eqb, ltb, List, [], ◌∷◌, ◌++◌, map, length, get_or, set, is_some, Some, None, Option, MutBor, sym, refl, ap, ◌∙◌, subst, ap₂, ⊎_elim, add-one, arith, ltb→lt}
+use Rattle.std.proofs.Common.{◌≡◌, ℕ, zero, suc, ◌+◌, ◌<◌, Bool, true, false, cond, ◌&&◌, T, eqb, ltb, List, [], ◌∷◌, ◌++◌, map, length, get_or, set, is_some, Some, None, Option, MutBor, sym, refl, ap, ◌∙◌, subst, ap₂, ⊎_elim, add-one, arith, ltb→lt}
 use Rattle.std.specs.Prelude.{IfSome}
 use Rattle.std.proofs.lemmas.List.{get_or-map, length-map, map-set, map_push, set-get_or, length-set, length_push, get_or-set_same, get_or-set_other, get_or_append_left, get_or_push}
-use Rattle.std.proofs.lemmas.Bool.{lt-ltb, le-ltb, cases_eq, cases_lt}
+use Rattle.std.proofs.lemmas.Bool.{lt-ltb, cases_eq, cases_lt}
 use Rattle.replica.specs.declared.replica.Replica.{Replica}
 use Rattle.model.specs.Member.{Member, new_member}
-use Rattle.model.specs.Seat.{answer, after, done, may_not}
+use Rattle.model.specs.Seat.{answer, after, done}
 use Rattle.model.specs.World.{new_members}
 use Rattle.model.proofs.Worlds.{new_size}
 use Rattle.rehearsal.specs.Seated.{Sit, StepsFrom}
@@ -19,14 +19,6 @@ found seats i (Some x) seat e has told =
     let same : x ≡ seat = cc in
     (ltb→lt i (length seats) (subst T has tt), subst (λ (y : MutBor Replica). y.now ≡ get_or seats i y.now) same told)
 
--- no such seat
-pub nobody : (ms : List Member) (i : ℕ) (may full : Member → Bool) (next : Member → Member) (seats : List Replica) → Sit ms seats → length seats ≤ i →
-    StepsFrom ms i may full next may_not seats
-nobody ms i may full next seats sit out =
-    let size : length ms ≡ length seats = ap length (sym sit.hold) ∙ length-map seats member_of in
-    let m = get_or ms i new_member in
-    record { right = ap (λ t. answer (t && may m) (full m)) (sym (le-ltb i (length ms) (omega arith))); after = sit }
-
 module _ (ms : List Member) (seats : List Replica) (sit : Sit ms seats) (i : ℕ) (within : i < length seats) (old new : Replica) (is : old ≡ get_or seats i old) where
   size : length ms ≡ length seats
   size = ap length (sym sit.hold) ∙ length-map seats member_of
@@ -34,7 +26,7 @@ module _ (ms : List Member) (seats : List Replica) (sit : Sit ms seats) (i : ℕ
   held : member_of old ≡ get_or ms i new_member
   held = ap member_of is ∙ sym (get_or-map member_of seats i old new_member within) ∙ ap (λ l. get_or l i new_member) sit.hold
 
-  pub number_is : old.number ≡ i
+  number_is : old.number ≡ i
   number_is = ap (λ (r : Replica). r.number) is ∙ sit.numbered i old within
 
   still_numbered : new.number ≡ old.number → (j : ℕ) (d : Replica) → j < length (set seats i new) → (get_or (set seats i new) j d).number ≡ j

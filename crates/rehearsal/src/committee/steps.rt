@@ -34,7 +34,8 @@ impl Committee<'_> {
         self.notes.signers(name).is_quorum(self.faults)
     }
 
-    // Making, signing and taking differ in what is asked of the seat and in what is noted then: one function for the three would be told both.
+    // Making, signing and taking differ in what is asked of the seat and in what is noted then: one function for the three would be told both. That
+    // the block is in the book is said at each of the four, since it is a fact of this book now, which no type of names could hold.
     fn makes(&mut self, member: u32, name: u32) -> Result<(), NotDone>
         requires { name < length (blocks self.old.book) }
         ensures acted { (s : Scene) → Plays s self.old → Acted s Makes member name (is_ok result) self.new }
