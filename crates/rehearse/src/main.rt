@@ -46,8 +46,9 @@ fn run(rt: &HostRuntime) -> anyhow::Result<()> {
         play(rt, faults, rt.stdin())?;
         return Ok(());
     }
-    let file = File::open(rt, script.as_str())
-        .map_err(|_| anyhow!("the script {script} can't be read"))?;
+    let file = File::open(rt, script.as_str()).map_err(|_| anyhow!(
+        "the script {script} can't be read"
+    ))?;
     play(rt, faults, file)?;
     Ok(())
 }

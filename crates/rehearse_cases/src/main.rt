@@ -12,10 +12,7 @@ const USAGE: &str = "usage: rehearse_cases F SCRIPT F SCRIPT ..";
 fn run(rt: &HostRuntime) -> anyhow::Result<()> {
     let mut args = env::args(rt)?;
     let _program = args.next();
-    for _ in 0..u64::MAX {
-        let Some(first) = args.next() else {
-            break;
-        };
+    while let Some(first) = args.next() {
         let Some(script) = args.next() else {
             bail!(USAGE);
         };
