@@ -15,7 +15,7 @@ mod grid;
 mod tables;
 mod width;
 
-/// The names of the order at the front of `out`, noughts behind them, and how many they are.
+/// The names of the order at the front of `out`, noughts behind them, and how many they are: there is no heap for a list of its own.
 pub fn read_order<B: Library>(book: &B, faults: Faults, web: &[u32], out: &mut [u32; 4096]) -> u32
     requires { Readable faults.f (B.Library.what book.now) web.now }
     ensures count { result ≡ length (order faults.f (B.Library.what book.now) web.now) }

@@ -44,6 +44,7 @@ impl<B: Library> Grid<'_, B> {
         } }
     {
         let row = self.width.row(round);
+        // the members from the last one down, by their numbers
         for i in (0..self.width.places()).rev() {
             self.hand_on(row + i);
         }
@@ -99,6 +100,7 @@ impl<B: Library> Grid<'_, B> {
         } }
     {
         let mut anchors = 0;
+        // back through the rounds, by their numbers
         for round in (0..2 * k + 1).rev() {
             anchors = self.one_row(round, anchors);
         }

@@ -62,6 +62,7 @@ impl<B: Library> Grid<'_, B> {
             ≡ last_voted_at faults.f self.now.width.places (B.Library.what self.now.book.now) self.now.names self.now.marks (last / 2 + 1) }
         ensures below { elim result [ None ↦ Unit {0} | Some k ↦ k < 2 ^ 31 ] }
     {
+        // back through the even rounds: of `find` the check finds no proof
         for k in (0..last / 2 + 1).rev() {
             if self.voted_at(faults, k) {
                 return Some(k);
