@@ -13,13 +13,7 @@ impl<B: Library> Grid<'_, B> {
     fn has_parent(&self, name: u32, parent: u32) -> bool
         ensures { result ≡ is_in parent (B.Library.what self.now.book.now name).parents }
     {
-        // of `any` in the place of the loop the check finds no proof
-        for other in parents_of(self.book, name) {
-            if parent == other {
-                return true;
-            }
-        }
-        false
+        parents_of(self.book, name).any(|other| parent == other)
     }
 
     // whether the block at a place, if one is there, has that parent
