@@ -21,7 +21,8 @@ pub trait Library {
     fn parents(&self, name: u32) -> u32
         ensures { result ≡ length (what self.now name).parents };
 
-    // the name of its parent at a place, from 0; 0 past the last one
+    // the name of its parent at a place, from 0; 0 past the last one, as the definition reads a list, and no `Option`: who goes over the parents, as
+    // `parents_of` does, asks for places below their number alone
     fn parent(&self, name: u32, at: u32) -> u32
         ensures { result ≡ slice_index (what self.now name).parents at };
 }

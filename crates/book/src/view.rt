@@ -8,6 +8,8 @@ mod finding;
 mod reading;
 
 /// A book's blocks, for reading. A name that isn't in the book reads as the empty block: author 0, round 0, no parents, no load.
+// The tables as they are lent, in slices. What holds of them is said by ghost fields, and the blocks by the definition `held`: a type that is copied and
+// has a lifetime can have no `impl Model`.
 #[derive(Clone, Copy)]
 pub struct View<'a> {
     pub(crate) entries: &'a [Entry],

@@ -1,4 +1,4 @@
-//! What the program prints for a line.
+//! What the program prints for a line. Lines and answers are bytes, as the line that is read may be any.
 
 ghost use Rattle.std.specs.Prelude.{◌≡◌, IfOk, codes};
 ghost use Rattle.digest.specs.Answer.{answer_of, digests_of};

@@ -16,7 +16,6 @@ fn with_digit(value: u32, byte: u8) -> Option<u32>
     value.checked_mul(BASE)?.checked_add(digit)
 }
 
-// The library's `parse` would take a plus sign in front.
 /// The number that is written by these digits, where there is one or more, nothing else, and the number fits.
 pub fn number(digits: &[u8]) -> Option<u32>
     ensures { elim result [
@@ -27,6 +26,7 @@ pub fn number(digits: &[u8]) -> Option<u32>
     if digits.is_empty() {
         return None;
     }
+    // the library's `parse` would take a plus sign in front, and `try_fold` say no more than the loop
     let mut value = 0;
     for byte in digits {
         value = with_digit(value, *byte)?;

@@ -47,7 +47,7 @@ impl<R: Read> LineReader<R> {
         Ok(Some(self.line.line()))
     }
 
-    /// Reads the next line into the buffer, and says whether there was one.
+    /// Reads the next line into the buffer, and says whether there was one. (A function of its own: `next_line` lends the buffer, which is filled before.)
     fn read(&mut self) -> io::Result<bool>
         ensures { MatchResult result
             (λ there. MatchBool there
@@ -56,6 +56,7 @@ impl<R: Read> LineReader<R> {
             (λ _. TakesPart (to_come R.remaining self.old.input) (to_come R.remaining self.new.input)) }
     {
         self.line.clear();
+        // counted, since each loop is proved to end, and nothing says how long a line is
         for _ in 0..u64::MAX {
             let Some(byte) = self.input.next_byte()? else {
                 return Ok(!self.line.is_empty());
@@ -65,7 +66,6 @@ impl<R: Read> LineReader<R> {
             }
             self.line.push(byte)?;
         }
-        // Every loop ends, and no input lives to see this one's end.
         Err(io::Error::from(io::ErrorKind::FileTooLarge))
     }
 }

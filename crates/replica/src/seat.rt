@@ -36,7 +36,9 @@ impl fmt::Display for Denied {
 
 impl Error for Denied {}
 
-/// A seat; `me` is what the member holds, `number` which member it is. How many members may be bad comes with the calls.
+/// A seat; `me` is what the member holds, `number` which member it is. How many members may be bad comes with the calls. Clauses give an answer by its
+/// number, as the rules and the model's definitions do.
+// The book and the name come apart, as the definitions have them, and in the trait no type says more of both.
 pub trait Seat {
     ghost me: { Self → Member };
 

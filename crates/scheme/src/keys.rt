@@ -39,6 +39,7 @@ pub enum KeysError {
     OutOfMemory,
 }
 
+// Display and From by hand: a derive of theirs states neither the text nor the variant.
 impl fmt::Display for KeysError {
     ghost output = { λ e. Some (told e) };
 

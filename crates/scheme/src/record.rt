@@ -10,6 +10,7 @@ ghost use Rattle.std.specs.Borrow.{ftrue};
 use std::marker::Model;
 
 /// The messages signed so far, the newest first.
+#[derive(Drop)]
 pub struct Record {
     ghost said: { List (List ℕ) },
 }
@@ -43,8 +44,3 @@ impl Record {
     }
 }
 
-impl Drop for Record {
-    fn drop(self) {
-        let Record {} = self;
-    }
-}

@@ -13,6 +13,7 @@ pub enum SignError {
     KeysUsedUp,
 }
 
+// by hand: a derive of it doesn't state the text
 impl fmt::Display for SignError {
     ghost output = { λ _. Some (codes "the keys to sign with are used up") };
 

@@ -26,6 +26,7 @@ pub type Hasher256 = Hasher<LENGTH_256>;
 /// A message that comes in pieces, for SHA3-512.
 pub type Hasher512 = Hasher<LENGTH_512>;
 
+// Two functions `new`, over one: for any length it would have to ask that twice the length is below 200.
 impl Hasher<LENGTH_256> {
     /// A hasher that was fed nothing.
     pub fn new() -> Hasher256

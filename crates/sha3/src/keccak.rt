@@ -292,7 +292,8 @@ pub fn permute(state: &mut State)
 {
     let mut a = *state;
     for constant in ROUND_CONSTANTS {
-        // A variable of its own: laid over `a` at once, the result of a call gets no proof where it is an array.
+        // The call's result goes through a variable of its own: the check gives no proof for one that is written over an array at once. (Of a `fold` over
+        // the constants it finds none either.)
         let next = round(a, constant);
         a = next;
     }

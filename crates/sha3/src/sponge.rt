@@ -19,6 +19,8 @@ const SHAKE_SUFFIX: u8 = 0x1f;
 /// The last bit of the padding, the highest of a block's last byte.
 const LAST_BIT: u8 = 0x80;
 
+// What follows, up to the sponge, is of a state alone, an array, and asks only that places lie in it: nothing that a sponge holds besides is needed.
+
 /// Adds a byte to byte `at` of the state's string.
 fn add_byte(state: &mut State, at: usize, byte: u8)
     requires { at < 200 }
@@ -63,7 +65,7 @@ fn add_bytes(state: &mut State, at: usize, bytes: &[u8])
     add_singly(state, end + lanes.len(), tail);
 }
 
-/// Byte `at` of the state's string.
+/// Byte `at` of the state's string, by the shift that `add_byte` goes the other way.
 fn byte_of(state: &State, at: usize) -> u8
     requires { at < 200 }
     ensures { result ≡ slice_index (bytes_of state.now) at }
@@ -72,6 +74,7 @@ fn byte_of(state: &State, at: usize) -> u8
 }
 
 /// A sponge that was fed some bytes: the state, with the bytes of the current block added, and how many these are.
+// Clauses read the fields, and no list of bytes as the sponge's value (an `impl Model`): many messages lead to one state.
 #[derive(Drop)]
 pub struct Sponge {
     state: State,
@@ -156,6 +159,7 @@ impl Sponge {
     fn squeeze(&mut self, out: &mut [u8])
         ensures { out.new ≡ squeezed self.old.rate (length out.old) (keccak self.old.state) }
     {
+        // the place in the block is counted: after a change through a slice's `chunks_mut` a proof knows the slice's length alone
         let mut at = self.rate;
         for byte in out.iter_mut() {
             if at == self.rate {

@@ -6,13 +6,14 @@ ghost use Rattle.sha3.specs.Sponge.{sha3_256, sha3_512};
 
 use sha3::{LENGTH_256, LENGTH_512, sha3_256, sha3_512};
 
+// C calls each by a name of its own, so there are two.
+
 /// Writes SHA3-256 of `bytes` to `digest`.
 #[unsafe(no_mangle)]
 pub extern "C" fn rattle_sha3_256(bytes: &[u8], digest: &mut [u8; LENGTH_256])
     ensures { digest.new ≡ sha3_256 bytes.now }
 {
-    let made = sha3_256(bytes);
-    *digest = made;
+    *digest = sha3_256(bytes);
 }
 
 /// Writes SHA3-512 of `bytes` to `digest`.
@@ -20,6 +21,5 @@ pub extern "C" fn rattle_sha3_256(bytes: &[u8], digest: &mut [u8; LENGTH_256])
 pub extern "C" fn rattle_sha3_512(bytes: &[u8], digest: &mut [u8; LENGTH_512])
     ensures { digest.new ≡ sha3_512 bytes.now }
 {
-    let made = sha3_512(bytes);
-    *digest = made;
+    *digest = sha3_512(bytes);
 }

@@ -25,7 +25,7 @@ returns c =
     record {
       value = ap Some made;
       accepted = ap (right_for ks m x) made ∙ right_own ks m x there;
-      said = c.with.ensures;
+      said = c.with-self.ensures;
       keys = refl;
       me = refl;
       secret = refl;
