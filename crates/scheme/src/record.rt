@@ -43,4 +43,3 @@ impl Record {
         Record::made(&(self, message))
     }
 }
-
