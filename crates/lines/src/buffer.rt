@@ -23,6 +23,7 @@ impl fmt::Display for TooLong {
 impl error::Error for TooLong {}
 
 /// The bytes of a line that have come so far. One more than a line may have tells that it is too long, and the others are dropped.
+// Contracts say by `Keeps` which lines it may hold, and no line as its value (an `impl Model`): of a line that is too long it holds a part only.
 #[derive(Drop)]
 pub struct LineBuffer {
     bytes: Vec<u8>,

@@ -8,6 +8,7 @@ const SPACE: u8 = b' ';
 
 /// The words of a line that are left to read. Where two spaces follow one another, or one stands at an end, a word is empty.
 // The library's `Split` holds its closure, whose type has no name that a field could have.
+// Contracts say by the definition `left` which words they are: a type that is copied and holds a reference can have no `impl Model`.
 #[derive(Clone, Copy, Debug)]
 pub struct Words<'a> {
     rest: Option<&'a [u8]>,

@@ -11,6 +11,7 @@ use book::library::{Library, Parents, parents_of};
 use members::{Faults, MemberSet};
 
 /// A block that a seat is asked about: its name, and the book that tells which block that is.
+// The committee comes with the calls, since taking a block in asks nothing of it.
 #[derive(Drop)]
 pub struct Candidate<'a, B> {
     pub book: &'a B,
