@@ -98,6 +98,9 @@ not_full : (m : Member) (x : ℕ) → T (not (full_web m)) → length (after_tak
 not_full m x t = nleb→lt seat_limit (length m.web) t
 
 -- a good member's number is small
+pub small_member : (f i : ℕ) → f ≤ 4 → ltb i (members f) ≡ true → i < 64
+small_member f i few member = let lt = ltb→lt i (members f) (true_is (ltb i (members f)) member) in let h = members-fit f few in omega arith
+
 pub small_number : (f i : ℕ) (bad : ℕ → Bool) → f ≤ 4 → good f bad i ≡ true → i < 64
 small_number f i bad few g =
     let t = ltb→lt i (members f) (and_left (ltb i (members f)) (not (bad i)) (true_is (good f bad i) g)) in let h = members-fit f few in omega arith

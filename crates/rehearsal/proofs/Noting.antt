@@ -1,8 +1,9 @@
 -- That the notes have what happened to each block, as it happens. Assumes nothing.
-use Rattle.std.proofs.Common.{◌≡◌, ℕ, ◌<◌, ◌≤◌, true, ◌||◌, eqb, List, ◌∷◌, length, get_or, set, Ok, Err, Result, sym, ap, ◌∙◌, subst, ⊎_elim, arith}
+use Rattle.std.proofs.Common.{◌≡◌, ℕ, ◌<◌, ◌≤◌, true, ◌||◌, eqb, List, ◌∷◌, length, get_or, set, Ok, Err, Result, refl, sym, ap, ◌∙◌, subst, ⊎_elim, arith}
 use lib.Dec.{eqb_refl}
 use Rattle.std.proofs.lemmas.List.{get_or-set_same, get_or-set_other, get_or_default}
 use Rattle.std.proofs.lemmas.Bool.{cases_eq}
+use Rattle.std.specs.Result.{IsOk}
 use Rattle.members.specs.declared.MemberSet.{MemberSet}
 use Rattle.members.specs.declared.NumberTooLarge.{NumberTooLarge}
 use Rattle.members.specs.Sets.{Holds, Adds}
@@ -46,6 +47,7 @@ module _ (ss : List Signature) (made : List ℕ) (notes : List Note) (i : ℕ) (
 
 -- a member of a small number finds its place in a set
 pub inserted : (member : ℕ) (old new : MemberSet) (r : Result (Unit {0}) NumberTooLarge) → member < 64 →
-    elim r as (λ _. Type 0) [ Ok u ↦ (member < 64) × Adds member old.bits new.bits | Err e ↦ (64 ≤ member) × (new ≡ old) ] → Adds member old.bits new.bits
-inserted member old new (Ok u) small told = told.1
+    elim r as (λ _. Type 0) [ Ok u ↦ (member < 64) × Adds member old.bits new.bits | Err e ↦ (64 ≤ member) × (new ≡ old) ] →
+    IsOk r × Adds member old.bits new.bits
+inserted member old new (Ok u) small told = (refl, told.1)
 inserted member old new (Err e) small told = absurd (let h = told.0 in omega arith)

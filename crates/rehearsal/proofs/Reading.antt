@@ -1,6 +1,6 @@
 -- That what a member's seat is asked for is there, and that what it reads off its web has the main promise. Assumes nothing.
 use Rattle.std.proofs.Common.{◌≡◌, ℕ, zero, suc, ◌<◌, ◌≤◌, Bool, true, false, not, ◌&&◌, T, ltb, ◌⊎◌, List, [], ◌∷◌, ◌++◌, length, get_or, take, Some, vec_items, sym, refl, ap, ◌∙◌, subst, ap₂, subst₂, ⊎_elim, arith, ltb→lt, T_not}
-use Rattle.std.proofs.lemmas.List.{map-id, get_or_append_left, length-append, get_or-map}
+use Rattle.std.proofs.lemmas.List.{length-map, map-id, get_or_append_left, length-append, get_or-map}
 use Rattle.std.proofs.Math.Logic.{∥∥₁_elim}
 use Rattle.std.proofs.Math.Dec.{T_prop}
 use Rattle.std.specs.Coded.{le_prop}
@@ -175,8 +175,9 @@ module _ (s : Scene) (c : Parts) (p : HoldWorld s c) where
         let fits = order_fits i g in
         is ∙ ap₂ (λ (n : ℕ) (l : List ℕ). take n l) (long ∙ ap length same) (listed ∙ ap (padded 4096) same) ∙ front_of_padded 4096 (order_in s i) fits
 
-  pub member_seated : (i : ℕ) → T (good s.faults (is_bad s) i) → i < length (world_in s).all
+  pub member_seated : (i : ℕ) → T (good s.faults (is_bad s) i) → i < length (vec_items c.seats.seats)
   member_seated i g =
       let size = (always_sound s.faults (book_in s) (is_bad s) s.events).size in
+      let seats : length (vec_items c.seats.seats) ≡ length (world_in s).all = sym (length-map (vec_items c.seats.seats) member_of) ∙ ap length p.seats.hold in
       let h = ltb→lt i (members s.faults) (and_left (ltb i (members s.faults)) (not (is_bad s i)) g) in
       omega arith

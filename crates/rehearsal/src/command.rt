@@ -1,5 +1,5 @@
 // What a line of a script says.
-ghost use Rattle.std.specs.Prelude.{◌≡◌, ℕ, ◌<◌, List, ◌∷◌, length, Some, None, ◌≢◌};
+ghost use Rattle.std.specs.Prelude.{◌≡◌, ℕ, ◌<◌, List, ◌∷◌, length, Some, None, codes, ◌≢◌};
 ghost use Rattle.lines.specs.Left.{left};
 ghost use Rattle.lines.specs.Words.{words_of};
 ghost use Rattle.rehearsal.specs.Saying.{Keyed, Described, spelled, Reads, MemberAndWord, JustMember, Describes};
@@ -44,6 +44,8 @@ pub enum Command<'a> {
 pub struct NotACommand;
 
 impl fmt::Display for NotACommand {
+    ghost output = { λ _. Some (codes "the line says nothing") };
+
     fn fmt<W: fmt::Write>(&self, f: &mut fmt::Formatter<W>) -> fmt::Result {
         f.write_str("the line says nothing")
     }

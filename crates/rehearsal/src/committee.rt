@@ -14,6 +14,7 @@ mod orders;
 mod steps;
 
 /// All members of a committee and their book, with what has happened so far: all that came by the calls of a script's lines.
+// no `impl Model` whose value is the script so far: one committee plays many scenes, since what it holds doesn't tell in which order things happened
 #[derive(Drop)]
 pub struct Committee<'a> {
     heap: Global,

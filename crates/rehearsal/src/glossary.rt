@@ -62,10 +62,10 @@ impl Glossary {
     pub fn text_of(&self, name: u32) -> &[u8]
         ensures { result.now ≡ text_for name (namings self.now) }
     {
-        match self.words.iter().find(|word| word.name == name) {
-            Some(word) => word.text.as_slice(),
-            None => b"",
-        }
+        self.words
+            .iter()
+            .find(|word| word.name == name)
+            .map_or(b"".as_slice(), |word| word.text.as_slice())
     }
 
     /// One more word.

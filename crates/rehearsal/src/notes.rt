@@ -100,21 +100,21 @@ impl Notes {
 
     /// A member's signature of a block, whoever gave it.
     pub fn add(&mut self, member: u32, name: u32)
-        requires { name < length self.old.notes.items }
+        requires who { member < 64 }
+        requires there { name < length self.old.notes.items }
         ensures long { length self.new.notes.items ≡ length self.old.notes.items }
-        ensures noted { (ss : List Signature) (done : List ℕ) → member < 64 → Noted ss done self.old.notes.items →
+        ensures noted { (ss : List Signature) (done : List ℕ) → Noted ss done self.old.notes.items →
             Noted (record { who = member; name = name } ∷ ss) done self.new.notes.items }
     {
-        let note = &mut self.notes[name as usize];
-        // a member's number is small enough for a set of members, so this is always done
-        let _ = note.signers.insert(member);
+        self.notes[name as usize].signers.insert(member).unwrap();
     }
 
     /// The signature that a good member has leave to give.
     pub fn sign(&mut self, leave: LeaveToSign)
-        requires { leave.name < length self.old.notes.items }
+        requires who { leave.number < 64 }
+        requires there { leave.name < length self.old.notes.items }
         ensures long { length self.new.notes.items ≡ length self.old.notes.items }
-        ensures noted { (ss : List Signature) (done : List ℕ) → leave.number < 64 → Noted ss done self.old.notes.items →
+        ensures noted { (ss : List Signature) (done : List ℕ) → Noted ss done self.old.notes.items →
             Noted (record { who = leave.number; name = leave.name } ∷ ss) done self.new.notes.items }
     {
         let Spent { number, name } = leave.spend();

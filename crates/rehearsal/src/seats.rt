@@ -12,7 +12,7 @@ ghost use Rattle.rehearsal.specs.Seated.{Sit, Steps};
 
 use book::library::Library;
 use members::Faults;
-use replica::{Denied, LeaveToSign, Replica, Seat};
+use replica::{Denied, LeaveToSign, ROOM, Replica, Seat};
 use std::alloc::{AllocError, Global};
 
 /// The members' seats, each at its number's place.
@@ -86,18 +86,15 @@ impl Seats {
         member: u32,
         book: &B,
         faults: Faults,
-        out: &mut [u32; 4096],
+        out: &mut [u32; ROOM],
     ) -> u32
-        requires { (d : Replica) → member < length self.now.seats.items →
-            Readable faults.f (B.Library.what book.now) (member_of (slice_index_or self.now.seats.items member d)).web }
-        ensures count { (ms : List Member) → Sit ms self.now.seats.items → member < length ms →
+        requires there { member < length self.now.seats.items }
+        requires readable { (d : Replica) → Readable faults.f (B.Library.what book.now) (member_of (slice_index_or self.now.seats.items member d)).web }
+        ensures count { (ms : List Member) → Sit ms self.now.seats.items →
             result ≡ length (order faults.f (B.Library.what book.now) (slice_index_or ms member new_member).web) }
-        ensures listed { (ms : List Member) → Sit ms self.now.seats.items → member < length ms →
+        ensures listed { (ms : List Member) → Sit ms self.now.seats.items →
             out.new ≡ padded 4096 (order faults.f (B.Library.what book.now) (slice_index_or ms member new_member).web) }
     {
-        match self.seats.get(member as usize) {
-            Some(seat) => seat.order(book, faults, out),
-            None => 0,
-        }
+        self.seats[member as usize].order(book, faults, out)
     }
 }

@@ -43,8 +43,8 @@ impl Committee<'_> {
         if !self.bad.contains(member) && self.bad.count() >= self.faults.most_bad() {
             return Err(NotDone);
         }
-        // a member's number is small enough for a set of members, so this is always done
-        let _ = self.bad.insert(member);
+        // a member's number is small enough for a set of members
+        self.bad.insert(member).unwrap();
         Ok(())
     }
 }

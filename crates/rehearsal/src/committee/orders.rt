@@ -9,6 +9,7 @@ ghost use Rattle.rehearsal.specs.Played.{Plays};
 ghost use Rattle.rehearsal.specs.Ordering.{OrderIs};
 
 use super::Committee;
+use replica::ROOM;
 use std::alloc::{AllocError, Global};
 
 /// The first so many names, or all where there are fewer.
@@ -30,7 +31,7 @@ impl Committee<'_> {
             return Ok(Some(Vec::new(self.heap)));
         }
         // a seat has no heap: it fills an array that is lent to it, and says how far
-        let mut out = [0; 4096];
+        let mut out = [0; ROOM];
         let book = self.book.view();
         let count = self.seats.order(member, &book, self.faults, &mut out);
         Ok(Some(first(self.heap, &out, count as usize)?))
@@ -41,6 +42,7 @@ impl Committee<'_> {
         ensures { IfOk result (λ line. line.items ≡ joined (map (λ (x : ℕ). text_for x (namings self.now.words)) names.now)) }
     {
         let mut line = Vec::new(self.heap);
+        // a loop, since what joins words at once joins text, and a script's words are any bytes
         for (i, name) in names.iter().enumerate() {
             if i > 0 {
                 line.push(b' ')?;
