@@ -24,7 +24,6 @@ use Rattle.rehearsal.specs.declared.notes.Notes.{Notes}
 use Rattle.rehearsal.specs.declared.seats.Seats.{Seats}
 use Rattle.rehearsal.specs.Books.{name_of, about_below, SameBelow}
 use Rattle.rehearsal.specs.Words.{Naming, name_in}
-use Rattle.rehearsal.specs.Glossaries.{namings}
 use Rattle.rehearsal.specs.Seated.{Sit}
 use Rattle.rehearsal.specs.Noted.{no_note, Noted}
 use Rattle.rehearsal.specs.Scenes.{Scene, is_bad, book_in, world_in, opening, may_be_bad, with_bad, with_blocks, with_word}
@@ -53,7 +52,7 @@ unfolding all_below
 known_nothing k = tt
 
 pub plays_opening : (f : ℕ) (c : Parts) → c.faults.f ≡ f → c.bad.bits ≡ 0 → Holds c.bad.bits [] → (n : ℕ) → n ≡ members f →
-    Sit (new_members n) (vec_items c.seats.seats) → vec_items c.notes.notes ≡ replicate (length (blocks c.book)) no_note → namings c.words ≡ [] →
+    Sit (new_members n) (vec_items c.seats.seats) → vec_items c.notes.notes ≡ replicate (length (blocks c.book)) no_note → c.words ≡ [] →
     HoldWorld (with_blocks (blocks c.book) (opening f)) c
 unfolding world about_below different all_below
 plays_opening f c ef eb holds n en sit notes words = record {
@@ -109,7 +108,7 @@ plays_bad s c c' i p none member room holds faults book seats notes words =
         book = ap blocks book ∙ p.book;
         notes = subst₂ (λ (k : Notes) (w : World). Noted w.signatures w.made (vec_items k.notes)) (sym notes) same p.notes;
         noted = ap (λ (k : Notes). length (vec_items k.notes)) notes ∙ p.noted;
-        words = ap namings words ∙ p.words;
+        words = words ∙ p.words;
         few = bad-few (is_bad s i) refl room;
         room = λ j. subst (λ (w : World). length (member_at j w).web ≤ seat_limit) same (p.room j);
         about = p.about;
@@ -144,7 +143,7 @@ same_below ks more before = record {
 
 -- a book with the same blocks, and as many notes that say the same
 pub same-blocks : (s : Scene) (c c' : Parts) → HoldWorld s c → blocks c'.book ≡ blocks c.book → vec_items c'.notes.notes ≡ vec_items c.notes.notes →
-    c'.faults ≡ c.faults → c'.bad ≡ c.bad → c'.seats ≡ c.seats → namings c'.words ≡ namings c.words → HoldWorld s c'
+    c'.faults ≡ c.faults → c'.bad ≡ c.bad → c'.seats ≡ c.seats → c'.words ≡ c.words → HoldWorld s c'
 same-blocks s c c' p book notes faults bad seats words = record {
   faults = ap (λ k. k.f) faults ∙ p.faults;
   bad = subst (λ k. Holds k.bits s.bad) (sym bad) p.bad;
@@ -183,7 +182,7 @@ plays_grown s c c' k p grown faults bad seats words long notes =
             made = λ x. ap (λ (m : Note). m.made) (notes x) ∙ p.notes.made x;
           });
       noted = long ∙ ap (λ m. m + 1) p.noted ∙ sym size;
-      words = ap namings words ∙ p.words;
+      words = words ∙ p.words;
       few = p.few;
       room = λ j. subst (λ (w : World). length (member_at j w).web ≤ seat_limit) same (p.room j);
       about = about_more n (length (blocks c'.book)) (omega arith) s.events p.about;
@@ -202,7 +201,7 @@ met_known l before after k x met ne = ⊎_elim (λ known. known.same) (λ new. a
 -- one more word, for a block that is there
 pub plays_word : (s : Scene) (c c' : Parts) (text : List ℕ) (x : ℕ) → HoldWorld s c → x < length s.blocks →
     c'.faults ≡ c.faults → c'.book ≡ c.book → c'.bad ≡ c.bad → c'.seats ≡ c.seats → c'.notes ≡ c.notes →
-    namings c'.words ≡ namings c.words ++ (record { text = text; name = x } ∷ []) → HoldWorld (with_word text x s) c'
+    c'.words ≡ c.words ++ (record { text = text; name = x } ∷ []) → HoldWorld (with_word text x s) c'
 plays_word s c c' text x p there faults book bad seats notes words = record {
   faults = ap (λ k. k.f) faults ∙ p.faults;
   bad = subst (λ k. Holds k.bits s.bad) (sym bad) p.bad;
@@ -224,7 +223,7 @@ plays_word s c c' text x p there faults book bad seats notes words = record {
 -- whether there was memory for the word or not, the parts hold the world of a scene
 pub plays_added : (s : Scene) (c c' : Parts) (text : List ℕ) (x : ℕ) → HoldWorld s c → x < length s.blocks →
     c'.faults ≡ c.faults → c'.book ≡ c.book → c'.bad ≡ c.bad → c'.seats ≡ c.seats → c'.notes ≡ c.notes → (r : Result (Unit {0}) AllocError) →
-    OnOk r (namings c'.words ≡ namings c.words ++ (record { text = text; name = x } ∷ [])) → OnErr r (namings c'.words ≡ namings c.words) → Played c'
+    OnOk r (c'.words ≡ c.words ++ (record { text = text; name = x } ∷ [])) → OnErr r (c'.words ≡ c.words) → Played c'
 plays_added s c c' text x p there faults book bad seats notes (Ok u) more same = (_, plays_word s c c' text x p there faults book bad seats notes more)
 plays_added s c c' text x p there faults book bad seats notes (Err e) more same =
     (s, same-blocks s c c' p (ap blocks book) (ap (λ (k : Notes). vec_items k.notes) notes) faults bad seats same)

@@ -1,5 +1,5 @@
 -- That the parts of a committee hold the world of what a script has said. Assumes nothing.
-use Rattle.std.specs.Prelude.{◌≡◌, ℕ, ◌≤◌, T, map, length, vec_items}
+use Rattle.std.specs.Prelude.{◌≡◌, ℕ, ◌≤◌, T, List, map, length, vec_items}
 use Rattle.book.specs.declared.book.Book.{Book as TheBook}
 use Rattle.book.specs.Books.{blocks}
 use Rattle.members.specs.declared.faults.Faults.{Faults}
@@ -10,10 +10,8 @@ use Rattle.model.specs.Seat.{seat_limit}
 use Rattle.model.specs.World.{member_at}
 use Rattle.rehearsal.specs.declared.seats.Seats.{Seats}
 use Rattle.rehearsal.specs.declared.notes.Notes.{Notes}
-use Rattle.rehearsal.specs.declared.glossary.Glossary.{Glossary}
 use Rattle.rehearsal.specs.Books.{about_below}
 use Rattle.rehearsal.specs.Words.{Naming}
-use Rattle.rehearsal.specs.Glossaries.{namings}
 use Rattle.rehearsal.specs.Seated.{Sit}
 use Rattle.rehearsal.specs.Noted.{Noted}
 use Rattle.rehearsal.specs.Scenes.{Scene, world_in}
@@ -25,7 +23,7 @@ pub record Parts : Type 0 where
   pub bad : MemberSet
   pub seats : Seats
   pub notes : Notes
-  pub words : Glossary
+  pub words : List Naming
 
 -- THE PARTS HOLD THE WORLD of the script's events: each member's seat holds what the member holds there, each block's note has who signed it
 -- there and whether it was made there; the book has the script's blocks, and the glossary its words. At most as many members are bad as may
@@ -37,7 +35,7 @@ pub record HoldWorld (s : Scene) (c : Parts) : Type 0 where
   pub book : blocks c.book ≡ s.blocks
   pub notes : Noted (world_in s).signatures (world_in s).made (vec_items c.notes.notes)
   pub noted : length (vec_items c.notes.notes) ≡ length s.blocks
-  pub words : namings c.words ≡ s.words
+  pub words : c.words ≡ s.words
   pub few : different s.bad ≤ s.faults
   pub room : (i : ℕ) → length (member_at i (world_in s)).web ≤ seat_limit
   pub about : T (about_below (length s.blocks) s.events)

@@ -14,7 +14,9 @@ mod orders;
 mod steps;
 
 /// All members of a committee and their book, with what has happened so far: all that came by the calls of a script's lines.
-// no `impl Model` whose value is the script so far: one committee plays many scenes, since what it holds doesn't tell in which order things happened
+// It has no `impl Model`: one committee plays many scenes, since what it holds doesn't tell in which order things happened.
+// That a call leaves the book the memory that was lent to it is a clause of each call, and no part of what the call answers: it holds where memory
+// runs out too, when nothing is answered, and it ties two moments, which an invariant can't.
 #[derive(Drop)]
 pub struct Committee<'a> {
     heap: Global,

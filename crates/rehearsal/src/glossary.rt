@@ -3,10 +3,10 @@ ghost use Rattle.std.specs.Prelude.{◌≡◌, [], ◌∷◌, ◌++◌, IfOk, ve
 ghost use Rattle.std.specs.Option.{option_map};
 ghost use Rattle.lines.specs.Left.{left};
 ghost use Rattle.rehearsal.specs.Words.{name_in, names_in, text_for};
-ghost use Rattle.rehearsal.specs.Glossaries.{namings};
 
 use lines::words::Words;
 use std::alloc::{AllocError, Global};
+use std::marker::Model;
 
 /// A word that stands for the block of this name.
 #[derive(Drop)]
@@ -15,7 +15,7 @@ pub struct Word {
     name: u32,
 }
 
-/// All words, the earliest first.
+/// All words, the earliest first: contracts see the list of them alone.
 // A list and no map: it is searched by word, and by name for the first word, so that there would have to be two maps, kept alike.
 #[derive(Drop)]
 pub struct Glossary {
@@ -23,10 +23,20 @@ pub struct Glossary {
     words: Vec<Word>,
 }
 
+impl Model for Glossary {
+    ghost use Rattle.std.specs.Prelude.{List, map, vec_items};
+    ghost use Rattle.rehearsal.specs.Words.{Naming};
+    ghost use Rattle.rehearsal.specs.Glossaries.{naming_of};
+
+    ghost Value = { List Naming };
+
+    ghost view = { λ g. map naming_of (vec_items g.words) };
+}
+
 impl Glossary {
     /// No word yet.
     pub fn new(heap: Global) -> Glossary
-        ensures { namings result ≡ [] }
+        ensures { result ≡ [] }
     {
         Glossary {
             heap,
@@ -36,7 +46,7 @@ impl Glossary {
 
     /// The name of the block that a word stands for.
     pub fn name_of(&self, text: &[u8]) -> Option<u32>
-        ensures { result ≡ name_in text.now (namings self.now) }
+        ensures { result ≡ name_in text.now self.now }
     {
         self.words
             .iter()
@@ -46,7 +56,7 @@ impl Glossary {
 
     /// The names of the blocks that words stand for, if each of them stands for one.
     pub fn names_of(&self, texts: Words<'_>) -> Result<Option<Vec<u32>>, AllocError>
-        ensures { IfOk result (λ o. option_map vec_items o ≡ names_in (left texts.entry) (namings self.now)) }
+        ensures { IfOk result (λ o. option_map vec_items o ≡ names_in (left texts.entry) self.now) }
     {
         let mut names = Vec::new(self.heap);
         for text in texts {
@@ -60,7 +70,7 @@ impl Glossary {
 
     /// The first word that was given to the block of this name; nothing if it has none.
     pub fn text_of(&self, name: u32) -> &[u8]
-        ensures { result.now ≡ text_for name (namings self.now) }
+        ensures { result.now ≡ text_for name self.now }
     {
         self.words
             .iter()
@@ -70,8 +80,8 @@ impl Glossary {
 
     /// One more word.
     pub fn add(&mut self, text: &[u8], name: u32) -> Result<(), AllocError>
-        ensures added { OnOk result (namings self.new ≡ namings self.old ++ (record { text = text.now; name = name } ∷ [])) }
-        ensures else_same { OnErr result (namings self.new ≡ namings self.old) }
+        ensures added { OnOk result (self.new ≡ self.old ++ (record { text = text.now; name = name } ∷ [])) }
+        ensures else_same { OnErr result (self.new ≡ self.old) }
     {
         let text = Vec::from_slice(self.heap, text)?;
         self.words.push(Word { text, name })?;

@@ -33,7 +33,8 @@ fn load_of(heap: Global, word: &[u8]) -> Result<Option<Vec<u8>>, AllocError>
 }
 
 impl Committee<'_> {
-    // The name of a block, unless it can't be in the book.
+    // The name of a block, unless it can't be in the book. Here and in `block` a `Result` of an `Option`, and no error that says which: that it can't be
+    // is an answer, after which the script goes on, and want of memory ends the program; the caller hands the one on by `?` and prints the other.
     fn meet(&mut self, block: Block<'_>) -> Result<Option<u32>, AllocError>
         ensures plays { IfOk result (λ o. (s : Scene) → Plays s self.old →
             Meets (memory self.old.book) s (shown block.entry) o self.new) }

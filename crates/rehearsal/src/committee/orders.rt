@@ -3,7 +3,6 @@ ghost use Rattle.std.specs.Prelude.{◌≡◌, ℕ, map, take, IfOk, vec_items};
 ghost use Rattle.std.specs.Option.{option_map};
 ghost use Rattle.lines.specs.Words.{joined};
 ghost use Rattle.rehearsal.specs.Words.{text_for};
-ghost use Rattle.rehearsal.specs.Glossaries.{namings};
 ghost use Rattle.rehearsal.specs.Scenes.{Scene};
 ghost use Rattle.rehearsal.specs.Played.{Plays};
 ghost use Rattle.rehearsal.specs.Ordering.{OrderIs};
@@ -39,7 +38,7 @@ impl Committee<'_> {
 
     /// The first words that were given to these blocks, on one line, with a space between any two.
     pub fn line_of(&self, names: &[u32]) -> Result<Vec<u8>, AllocError>
-        ensures { IfOk result (λ line. line.items ≡ joined (map (λ (x : ℕ). text_for x (namings self.now.words)) names.now)) }
+        ensures { IfOk result (λ line. line.items ≡ joined (map (λ (x : ℕ). text_for x self.now.words) names.now)) }
     {
         let mut line = Vec::new(self.heap);
         // a loop, since what joins words at once joins text, and a script's words are any bytes
