@@ -16,7 +16,7 @@ use std::alloc::{AllocError, Global};
 /// The authors of a script's blocks are below this.
 const AUTHORS: u32 = 256;
 
-/// The rounds of a script's blocks are below this.
+/// The rounds of a script's blocks are below this: a seat makes none of a later one.
 const ROUNDS: u32 = 1 << 20;
 
 /// The bytes of a block's load, as a line has it: `-` for none.
@@ -33,8 +33,7 @@ fn load_of(heap: Global, word: &[u8]) -> Result<Option<Vec<u8>>, AllocError>
 }
 
 impl Committee<'_> {
-    // The name of a block, unless it can't be in the book. Here and in `block` a `Result` of an `Option`, and no error that says which: that it can't be
-    // is an answer, after which the script goes on, and want of memory ends the program; the caller hands the one on by `?` and prints the other.
+    // The name of a block, unless it can't be in the book.
     fn meet(&mut self, block: Block<'_>) -> Result<Option<u32>, AllocError>
         ensures plays { IfOk result (λ o. (s : Scene) → Plays s self.old →
             Meets (memory self.old.book) s (shown block.entry) o self.new) }
@@ -54,6 +53,8 @@ impl Committee<'_> {
 
     /// A word for a block, as a line describes it: the block's name, if it could be given. It could if the word isn't in use, the author and the
     /// round aren't too large, the load is bytes, each parent's word stands for a block, and the book takes the block.
+    // A `Result` of an `Option`, and no one error for both: that a block can't be named is an answer, after which the script goes on, while want of
+    // memory ends the program, so that the caller would have to take the two apart again.
     pub fn block(&mut self, line: BlockLine<'_>) -> Result<Option<u32>, AllocError>
         ensures plays { IfOk result (λ o. (s : Scene) → Plays s self.old →
             Introduced (memory self.old.book) s (described line.entry) o self.new) }
