@@ -27,6 +27,8 @@ impl Note {
 }
 
 /// A note for each block, at its name's place.
+// It has no `impl Model` but its list: signatures and blocks made in many orders leave the same notes, so contracts go over all that fit, by `Noted`.
+// That a block has a note is asked at each call, since it is a fact of these notes and a name, which no type of names could hold.
 #[derive(Drop)]
 pub struct Notes {
     notes: Vec<Note>,

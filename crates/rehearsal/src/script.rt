@@ -29,7 +29,7 @@ pub struct Player<'a> {
     opening: bool,
 }
 
-/// What is printed after something that was done, or wasn't.
+/// What is printed after something that was done, or wasn't. (One test, by name: a `From<bool>` would say less.)
 fn answer(done: bool) -> Reply
     ensures { result ≡ yes_no done }
 {

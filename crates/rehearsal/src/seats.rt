@@ -80,7 +80,7 @@ impl Seats {
         seat.take(book, name, certified)
     }
 
-    /// The order that a member reads off its web: how long it is, and its names at the front of `out`.
+    /// The order that a member reads off its web: how long it is, and its names at the front of `out`, which is lent to the seat, as it has no heap.
     pub fn order<B: Library>(
         &self,
         member: u32,
