@@ -1,4 +1,5 @@
-// For `bench/run-order`: the order of a book in slices, for programs of other languages that link `liborder_bench.a`.
+// For `bench/run-order`: the order of a book in slices, for programs of other languages that link `liborder_bench.a`. C calls it: so a number and
+// slices stand where the crates have a committee and a book, the order is an array with a count, and what is asked of a caller is said of these.
 #![tactic(auto)]
 
 ghost use Rattle.std.specs.Prelude.{◌≡◌, ◌≤◌, T, length, get_or};
@@ -12,7 +13,7 @@ use book::library::Library;
 use members::Faults;
 use order::read_order;
 
-/// A block: its author and round, where its parents start, and how many there are.
+/// A block: its author and round, where its parents start, and how many there are. C has no slice within another: so numbers say where they are.
 #[repr(C)]
 #[derive(Clone, Copy, Default)]
 pub struct Entry {

@@ -1,8 +1,8 @@
 use Rattle.std.proofs.Common.{ℕ, ◌+◌, ◌/◌, Some, None, sym, ap, ◌∙◌}
 use Rattle.order_theory.specs.Tables.{last_voted_at, marked_from, written_from}
 use Rattle.order_theory.proofs.Places.{noughts}
-use Rattle.order_theory.proofs.Steps.{marked_is}
 use Rattle.order_theory.proofs.Main.{written_by_lem}
+use Rattle.order.specs.Marks.{steps_of}
 use Rattle.order.proofs.Grids.{entered}
 use Rattle.order.proofs.read_order.Goals as goal
 
@@ -37,12 +37,9 @@ returns-in-Some g c =
     (c.in-Some.ensures.last ∙ ap (λ k. last_voted_at f n (what k) grid.names grid.marks rounds) is.same_book) in
     let after = c.mark_from-anchors.ensures in
     let marked = c.mark_from-anchors.new.self in
-    let u =
-    marked_is (marked_from n (what grid.book.now) k grid.names grid.marks) marked.marks c.mark_from-anchors.result
-    (ap (λ v. v.marks) after.marks) after.anchors
-    ∙ ap (λ v. marked_from n (what v) k grid.names grid.marks) is.same_book in
+    let u = after.steps ∙ ap (λ v. marked_from n (what v) k grid.names grid.marks) is.same_book in
     let w =
     sym c.write.ensures
-    ∙ (ap (λ v. written_from v (record { marks = marked.marks; anchors = c.mark_from-anchors.result }) (noughts 4096)) (ap (λ v. v.names) after.marks)
+    ∙ (ap (λ v. written_from v (steps_of marked c.mark_from-anchors.result) (noughts 4096)) (ap (λ v. v.names) after.rest)
     ∙ (ap (λ v. written_from grid.names v (noughts 4096)) u ∙ r)) in
     record { count = ap (λ v. v.count) w; listed = ap (λ v. v.out) w }

@@ -1,6 +1,7 @@
 // The marks, which tell which of the anchors reaches a block first.
 ghost use Rattle.std.specs.Prelude.{◌≡◌, ◌+◌, ◌-◌, ◌*◌, ◌/◌, ◌%◌, ◌^◌, ◌<◌, ◌≤◌};
 ghost use Rattle.order_theory.specs.Tables.{raised_all, handed_on, row_handed_on, leader_tested, one_row, marked_from};
+ghost use Rattle.order.specs.Marks.{steps_of};
 
 use super::Grid;
 use crate::tables::{at, put, raise};
@@ -52,12 +53,9 @@ impl<B: Library> Grid<'_, B> {
     // the leader's block of an even round is the next anchor if the anchor found last reaches it
     fn test_leader(&mut self, round: u32, anchors: u32) -> u32
         requires { anchors ≤ 2 ^ 31 }
-        ensures anchors { result ≡ (leader_tested (round * self.old.width.places + round / 2 % self.old.width.places)
-            (record { marks = self.old.marks; anchors = anchors })).anchors }
-        ensures marks { self.new ≡ record self.old {
-          marks = (leader_tested (round * self.old.width.places + round / 2 % self.old.width.places)
-              (record { marks = self.old.marks; anchors = anchors })).marks;
-        } }
+        ensures steps { steps_of self.new result
+            ≡ leader_tested (round * self.old.width.places + round / 2 % self.old.width.places) (steps_of self.old anchors) }
+        ensures rest { self.new ≡ record self.old { marks = self.new.marks } }
     {
         let place = self.width.leader(round);
         if at(&self.marks, place) == anchors + 1 {
@@ -71,12 +69,9 @@ impl<B: Library> Grid<'_, B> {
     // a round: the leader is tested, if it is even, and then its blocks hand on their marks
     fn one_row(&mut self, round: u32, anchors: u32) -> u32
         requires { anchors ≤ 2 ^ 31 }
-        ensures anchors { result ≡ (one_row self.old.width.places (B.Library.what self.old.book.now) self.old.names round
-            (record { marks = self.old.marks; anchors = anchors })).anchors }
-        ensures marks { self.new ≡ record self.old {
-          marks = (one_row self.old.width.places (B.Library.what self.old.book.now) self.old.names round
-              (record { marks = self.old.marks; anchors = anchors })).marks;
-        } }
+        ensures steps { steps_of self.new result
+            ≡ one_row self.old.width.places (B.Library.what self.old.book.now) self.old.names round (steps_of self.old anchors) }
+        ensures rest { self.new ≡ record self.old { marks = self.new.marks } }
         ensures small { result ≤ anchors + 1 - round % 2 }
     {
         let found = if round % 2 == 0 {
@@ -91,12 +86,9 @@ impl<B: Library> Grid<'_, B> {
     /// Goes back from round `2 * k`, whose leader's block is the last anchor, and returns how many anchors there are.
     pub fn mark_from(&mut self, k: u32) -> u32
         requires { k < 2 ^ 31 }
-        ensures anchors { result
-            ≡ (marked_from self.old.width.places (B.Library.what self.old.book.now) k self.old.names self.old.marks).anchors }
-        ensures marks { self.new ≡ record self.old {
-          marks
-              = (marked_from self.old.width.places (B.Library.what self.old.book.now) k self.old.names self.old.marks).marks;
-        } }
+        ensures steps { steps_of self.new result
+            ≡ marked_from self.old.width.places (B.Library.what self.old.book.now) k self.old.names self.old.marks }
+        ensures rest { self.new ≡ record self.old { marks = self.new.marks } }
     {
         let mut anchors = 0;
         // back through the rounds, by their numbers

@@ -29,7 +29,7 @@ impl<B: Library> Grid<'_, B> {
             ≡ votes_in (B.Library.what self.now.book.now) name self.now.names self.now.marks (round * self.now.width.places) self.now.width.places }
     {
         let row = self.width.row(round);
-        // a loop: of `filter` and `count` over the places, or over the members, the check finds no proof
+        // a loop: by `filter` and `count` over the row's places, which proves too, the order of a full web took a third longer
         let mut count = 0;
         for i in 0..self.width.places() {
             if self.votes_at(name, row + i) {
@@ -56,7 +56,7 @@ impl<B: Library> Grid<'_, B> {
             ≡ last_voted_at faults.f self.now.width.places (B.Library.what self.now.book.now) self.now.names self.now.marks (last / 2 + 1) }
         ensures below { elim result [ None ↦ Unit {0} | Some k ↦ k < 2 ^ 31 ] }
     {
-        // back through the even rounds: of `find` the check finds no proof
+        // back through the even rounds, by their numbers: going back through rounds is a loop downwards
         for k in (0..last / 2 + 1).rev() {
             if self.voted_at(faults, k) {
                 return Some(k);
