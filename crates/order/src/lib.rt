@@ -25,11 +25,11 @@ pub fn read_order<B: Library>(book: &B, faults: Faults, web: &[u32], out: &mut [
     let last = last_round(book, web);
     let mut grid = Grid::new(book, faults);
     grid.enter(web);
-    match grid.last_voted(faults, last) {
+    match grid.last_voted(last) {
         None => 0,
         Some(k) => {
-            let anchors = grid.mark_from(k);
-            grid.write(anchors, out)
+            grid.mark_from(k);
+            grid.write(out)
         }
     }
 }

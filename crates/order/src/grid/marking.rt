@@ -51,50 +51,45 @@ impl<B: Library> Grid<'_, B> {
     }
 
     // the leader's block of an even round is the next anchor if the anchor found last reaches it
-    fn test_leader(&mut self, round: u32, anchors: u32) -> u32
-        requires { anchors ≤ 2 ^ 31 }
-        ensures steps { steps_of self.new result
-            ≡ leader_tested (round * self.old.width.places + round / 2 % self.old.width.places) (steps_of self.old anchors) }
-        ensures rest { self.new ≡ record self.old { marks = self.new.marks } }
+    fn test_leader(&mut self, round: u32)
+        requires { self.old.anchors ≤ 2 ^ 31 }
+        ensures steps { steps_of self.new
+            ≡ leader_tested (round * self.old.width.places + round / 2 % self.old.width.places) (steps_of self.old) }
+        ensures rest { self.new ≡ record self.old { marks = self.new.marks; anchors = self.new.anchors } }
     {
         let place = self.width.leader(round);
-        if at(&self.marks, place) == anchors + 1 {
-            put(&mut self.marks, place, anchors + 2);
-            anchors + 1
-        } else {
-            anchors
+        let next = self.anchors + 1;
+        if at(&self.marks, place) == next {
+            put(&mut self.marks, place, next + 1);
+            self.anchors = next;
         }
     }
 
     // a round: the leader is tested, if it is even, and then its blocks hand on their marks
-    fn one_row(&mut self, round: u32, anchors: u32) -> u32
-        requires { anchors ≤ 2 ^ 31 }
-        ensures steps { steps_of self.new result
-            ≡ one_row self.old.width.places (B.Library.what self.old.book.now) self.old.names round (steps_of self.old anchors) }
-        ensures rest { self.new ≡ record self.old { marks = self.new.marks } }
-        ensures small { result ≤ anchors + 1 - round % 2 }
+    fn one_row(&mut self, round: u32)
+        requires { self.old.anchors ≤ 2 ^ 31 }
+        ensures steps { steps_of self.new
+            ≡ one_row self.old.width.places (B.Library.what self.old.book.now) self.old.names round (steps_of self.old) }
+        ensures rest { self.new ≡ record self.old { marks = self.new.marks; anchors = self.new.anchors } }
+        ensures small { self.new.anchors ≤ self.old.anchors + 1 - round % 2 }
     {
-        let found = if round % 2 == 0 {
-            self.test_leader(round, anchors)
-        } else {
-            anchors
-        };
+        if round % 2 == 0 {
+            self.test_leader(round);
+        }
         self.hand_on_row(round);
-        found
     }
 
-    /// Goes back from round `2 * k`, whose leader's block is the last anchor, and returns how many anchors there are.
-    pub fn mark_from(&mut self, k: u32) -> u32
+    /// Goes back from round `2 * k`, whose leader's block is the last anchor.
+    pub fn mark_from(&mut self, k: u32)
         requires { k < 2 ^ 31 }
-        ensures steps { steps_of self.new result
+        ensures steps { steps_of self.new
             ≡ marked_from self.old.width.places (B.Library.what self.old.book.now) k self.old.names self.old.marks }
-        ensures rest { self.new ≡ record self.old { marks = self.new.marks } }
+        ensures rest { self.new ≡ record self.old { marks = self.new.marks; anchors = self.new.anchors } }
     {
-        let mut anchors = 0;
+        self.anchors = 0;
         // back through the rounds, by their numbers
         for round in (0..2 * k + 1).rev() {
-            anchors = self.one_row(round, anchors);
+            self.one_row(round);
         }
-        anchors
     }
 }

@@ -6,7 +6,6 @@ ghost use Rattle.order_theory.specs.Tables.{votes_at, votes_in, voted_at, last_v
 use super::Grid;
 use crate::tables::at;
 use book::library::{Library, parents_of};
-use members::Faults;
 
 impl<B: Library> Grid<'_, B> {
     // whether a block has that parent
@@ -24,41 +23,37 @@ impl<B: Library> Grid<'_, B> {
     }
 
     // how many of a round do
-    pub(super) fn votes_in(&self, name: u32, round: u32) -> u32
+    pub(super) fn votes_in(&self, name: u32, round: u32) -> usize
         ensures { result
             ≡ votes_in (B.Library.what self.now.book.now) name self.now.names self.now.marks (round * self.now.width.places) self.now.width.places }
     {
         let row = self.width.row(round);
-        // a loop: by `filter` and `count` over the row's places, which proves too, the order of a full web took a third longer
-        let mut count = 0;
-        for i in 0..self.width.places() {
-            if self.votes_at(name, row + i) {
-                count += 1;
-            }
-        }
-        count
+        (row..row + self.width.places())
+            .filter(|place| self.votes_at(name, *place))
+            .count()
     }
 
     // whether the leader's block of round `2 * k` is there and has more than `f` votes
-    fn voted_at(&self, faults: Faults, k: u32) -> bool
+    fn voted_at(&self, k: u32) -> bool
         requires { k < 2 ^ 31 }
         ensures { result
-            ≡ voted_at faults.f self.now.width.places (B.Library.what self.now.book.now) self.now.names self.now.marks k }
+            ≡ voted_at self.now.faults.f self.now.width.places (B.Library.what self.now.book.now) self.now.names self.now.marks k }
     {
         let leader = self.width.leader(2 * k);
         let name = at(&self.names, leader);
-        at(&self.marks, leader) > 0 && self.votes_in(name, 2 * k + 1) > faults.most_bad()
+        at(&self.marks, leader) > 0
+            && self.votes_in(name, 2 * k + 1) > self.faults.most_bad() as usize
     }
 
     /// The latest even round, of the rounds up to `last`, whose leader has the votes: half of it.
-    pub fn last_voted(&self, faults: Faults, last: u32) -> Option<u32>
+    pub fn last_voted(&self, last: u32) -> Option<u32>
         ensures last { result
-            ≡ last_voted_at faults.f self.now.width.places (B.Library.what self.now.book.now) self.now.names self.now.marks (last / 2 + 1) }
+            ≡ last_voted_at self.now.faults.f self.now.width.places (B.Library.what self.now.book.now) self.now.names self.now.marks (last / 2 + 1) }
         ensures below { elim result [ None ↦ Unit {0} | Some k ↦ k < 2 ^ 31 ] }
     {
         // back through the even rounds, by their numbers: going back through rounds is a loop downwards
         for k in (0..last / 2 + 1).rev() {
-            if self.voted_at(faults, k) {
+            if self.voted_at(k) {
                 return Some(k);
             }
         }

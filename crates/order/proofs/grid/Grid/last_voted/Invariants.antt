@@ -7,4 +7,4 @@ abbrev pub invariant-loop-k : goal.invariant-loop-k
 invariant-loop-k g l =
     let t = l.self in
     let b = g.B.Library.what t.book.now in
-    last_voted_at l.faults.f t.width.places b t.names t.marks (l.last / 2 + 1) ≡ last_voted_at l.faults.f t.width.places b t.names t.marks l.k
+    last_voted_at t.faults.f t.width.places b t.names t.marks (l.last / 2 + 1) ≡ last_voted_at t.faults.f t.width.places b t.names t.marks l.k

@@ -9,6 +9,6 @@ invariant-loop-round g l =
     let b = g.B.Library.what l.initial.self.book.now in
     let n = l.initial.self.width.places in
     let names = l.initial.self.names in
-    (l.self ≡ record l.initial.self { marks = l.self.marks })
-    × (marked_from n b l.k names l.initial.self.marks ≡ went_back n b names l.round (steps_of l.self l.anchors))
-    × (l.anchors + (l.round + 1) / 2 ≤ l.k + 1)
+    (l.self ≡ record l.initial.self { marks = l.self.marks; anchors = l.self.anchors })
+    × (marked_from n b l.k names l.initial.self.marks ≡ went_back n b names l.round (steps_of l.self))
+    × (l.self.anchors + (l.round + 1) / 2 ≤ l.k + 1)
