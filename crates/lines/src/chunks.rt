@@ -22,6 +22,8 @@ pub(crate) struct Chunks<R> {
 impl<R: Read> Chunks<R> {
     ghost use Rattle.lines.specs.Chunks.{unread, to_come, GivesByte};
 
+    // Contracts say by `to_come` which bytes will be given, and no list is the value of this (an `impl Model`): of the input's it is known for some inputs alone.
+
     /// Before the first byte.
     pub(crate) fn new(input: R) -> Chunks<R>
         ensures unread { unread result ≡ [] }

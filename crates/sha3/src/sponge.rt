@@ -102,7 +102,7 @@ impl Sponge {
         }
     }
 
-    /// SHAKE128, fed nothing.
+    /// SHAKE128, fed nothing. (Callers have its name and the next one's; each is a constant.)
     pub fn shake128() -> Sponge
         ensures { (result.rate ≡ 168) × (result.suffix ≡ shake_suffix) × Holds 168 result.state result.at [] }
     {
