@@ -1,7 +1,6 @@
 mod Both
 mod Digits
 mod Cuts
-mod Keeping
 mod Taking
 mod Decoding
 pub mod Pairs

@@ -22,11 +22,12 @@ impl fmt::Display for TooLong {
 
 impl error::Error for TooLong {}
 
-/// The bytes of a line that have come so far. One more than a line may have tells that it is too long, and the others are dropped.
-// Contracts say by `Keeps` which lines it may hold, and no line as its value (an `impl Model`): of a line that is too long it holds a part only.
+/// The bytes of a line that have come so far, or that there are more than a line may have, which takes no memory.
+// Contracts say by `Keeps` which lines it may hold, and no line as its value (an `impl Model`): of a line that is too long it holds nothing.
 #[derive(Drop)]
 pub struct LineBuffer {
-    bytes: Vec<u8>,
+    heap: Global,
+    bytes: Result<Vec<u8>, TooLong>,
 }
 
 impl LineBuffer {
@@ -35,7 +36,8 @@ impl LineBuffer {
         ensures { Keeps result [] }
     {
         LineBuffer {
-            bytes: Vec::new(heap),
+            heap,
+            bytes: Ok(Vec::new(heap)),
         }
     }
 
@@ -43,8 +45,13 @@ impl LineBuffer {
     pub fn push(&mut self, byte: u8) -> Result<(), AllocError>
         ensures { (line : List ℕ) → Keeps self.old line → Keeps self.new (if is_ok result then line ++ (byte ∷ []) else line) }
     {
-        if self.bytes.len() <= LONGEST {
-            self.bytes.push(byte)?;
+        let Ok(bytes) = &mut self.bytes else {
+            return Ok(());
+        };
+        if bytes.len() < LONGEST {
+            bytes.push(byte)?;
+        } else {
+            self.bytes = Err(TooLong);
         }
         Ok(())
     }
@@ -53,7 +60,7 @@ impl LineBuffer {
     pub fn is_empty(&self) -> bool
         ensures { (line : List ℕ) → Keeps self.now line → result ≡ (length line == 0) }
     {
-        self.bytes.is_empty()
+        matches!(&self.bytes, Ok(bytes) if bytes.is_empty())
     }
 
     /// The line, unless it is too long.
@@ -61,16 +68,19 @@ impl LineBuffer {
         ensures { (line : List ℕ) → Keeps self.now line →
             MatchResult result (λ bytes. (bytes.now ≡ line) × (length line ≤ longest)) (λ _. longest < length line) }
     {
-        if self.bytes.len() > LONGEST {
-            return Err(TooLong);
+        match &self.bytes {
+            Ok(bytes) => Ok(bytes.as_slice()),
+            Err(why) => Err(*why),
         }
-        Ok(self.bytes.as_slice())
     }
 
     /// The next line begins.
     pub fn clear(&mut self)
         ensures { Keeps self.new [] }
     {
-        self.bytes.clear();
+        match &mut self.bytes {
+            Ok(bytes) => bytes.clear(),
+            Err(_) => self.bytes = Ok(Vec::new(self.heap)),
+        }
     }
 }

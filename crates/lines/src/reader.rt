@@ -66,6 +66,7 @@ impl<R: Read> LineReader<R> {
             }
             self.line.push(byte)?;
         }
+        // no input lives to see the count's end; that no line is left would not be true there
         Err(io::Error::from(io::ErrorKind::FileTooLarge))
     }
 }
