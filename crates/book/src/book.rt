@@ -8,6 +8,7 @@ mod meeting;
 
 /// Blocks in lent memory, each known by its name: the number of blocks that came before it. No block has two names, and its parents are named
 /// before it.
+// It has no `impl Model`: two things are said of a book, by the definitions `blocks` and `memory`, and most clauses are of one of them.
 #[derive(Drop)]
 pub struct Book<'a> {
     tables: Tables<'a>,

@@ -17,7 +17,7 @@ fn value(digit: u8) -> Option<u8>
     }
 }
 
-/// The digit of a value.
+/// The digit of a value. (`char::from_digit` answers an `Option` of a `char`, no plainer for a byte.)
 fn character(value: u8) -> u8
     requires { value < 16 }
     ensures { result ≡ character_of value }
@@ -85,6 +85,7 @@ pub fn array_of<const N: usize>(digits: &[u8]) -> Option<[u8; N]>
         return None;
     }
     let mut bytes = [0; N];
+    // an index, and no `zip` with `iter_mut`, of which a proof knows the length alone afterwards
     for (i, [high, low]) in pairs.iter().enumerate() {
         bytes[i] = byte(*high, *low)?;
     }
@@ -102,7 +103,7 @@ pub fn append(digits: &mut Vec<u8>, bytes: &[u8]) -> Result<(), AllocError>
     Ok(())
 }
 
-/// The digits of some bytes.
+/// The digits of some bytes, as bytes, since lines are bytes.
 pub fn digits_of(heap: Global, bytes: &[u8]) -> Result<Vec<u8>, AllocError>
     ensures { IfOk result (λ v. v.items ≡ hex_of bytes.now) }
 {

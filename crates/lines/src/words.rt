@@ -7,7 +7,7 @@ ghost use Rattle.lines.specs.Left.{left};
 const SPACE: u8 = b' ';
 
 /// The words of a line that are left to read. Where two spaces follow one another, or one stands at an end, a word is empty.
-// The library's `Split` holds its closure, whose type has no name that a field could have.
+// The library's `Split` holds its closure, whose type has no name that a field could have; the crate bstr's can't be copied.
 // Contracts say by the definition `left` which words they are: a type that is copied and holds a reference can have no `impl Model`.
 #[derive(Clone, Copy, Debug)]
 pub struct Words<'a> {

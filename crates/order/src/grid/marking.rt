@@ -1,7 +1,7 @@
 // The marks, which tell which of the anchors reaches a block first.
 ghost use Rattle.std.specs.Prelude.{◌≡◌, ◌+◌, ◌-◌, ◌*◌, ◌/◌, ◌%◌, ◌^◌, ◌<◌, ◌≤◌};
 ghost use Rattle.order_theory.specs.Tables.{raised_all, handed_on, row_handed_on, leader_tested, one_row, marked_from};
-ghost use Rattle.order.specs.Marks.{steps_of};
+ghost use Rattle.order.specs.Marks.{steps_of, RestStays};
 
 use super::Grid;
 use crate::tables::{at, put, raise};
@@ -55,7 +55,7 @@ impl<B: Library> Grid<'_, B> {
         requires { self.old.anchors ≤ 2 ^ 31 }
         ensures steps { steps_of self.new
             ≡ leader_tested (round * self.old.width.places + round / 2 % self.old.width.places) (steps_of self.old) }
-        ensures rest { self.new ≡ record self.old { marks = self.new.marks; anchors = self.new.anchors } }
+        ensures rest { RestStays self.old self.new }
     {
         let place = self.width.leader(round);
         let next = self.anchors + 1;
@@ -70,7 +70,7 @@ impl<B: Library> Grid<'_, B> {
         requires { self.old.anchors ≤ 2 ^ 31 }
         ensures steps { steps_of self.new
             ≡ one_row self.old.width.places (B.Library.what self.old.book.now) self.old.names round (steps_of self.old) }
-        ensures rest { self.new ≡ record self.old { marks = self.new.marks; anchors = self.new.anchors } }
+        ensures rest { RestStays self.old self.new }
         ensures small { self.new.anchors ≤ self.old.anchors + 1 - round % 2 }
     {
         if round % 2 == 0 {
@@ -84,7 +84,7 @@ impl<B: Library> Grid<'_, B> {
         requires { k < 2 ^ 31 }
         ensures steps { steps_of self.new
             ≡ marked_from self.old.width.places (B.Library.what self.old.book.now) k self.old.names self.old.marks }
-        ensures rest { self.new ≡ record self.old { marks = self.new.marks; anchors = self.new.anchors } }
+        ensures rest { RestStays self.old self.new }
     {
         self.anchors = 0;
         // back through the rounds, by their numbers

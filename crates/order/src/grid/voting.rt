@@ -33,7 +33,8 @@ impl<B: Library> Grid<'_, B> {
             .count()
     }
 
-    // whether the leader's block of round `2 * k` is there and has more than `f` votes
+    // whether the leader's block of round `2 * k` is there and has more than `f` votes; here and below a round is told by half of it, as the theory's
+    // definitions count even rounds
     fn voted_at(&self, k: u32) -> bool
         requires { k < 2 ^ 31 }
         ensures { result
@@ -51,7 +52,7 @@ impl<B: Library> Grid<'_, B> {
             ≡ last_voted_at self.now.faults.f self.now.width.places (B.Library.what self.now.book.now) self.now.names self.now.marks (last / 2 + 1) }
         ensures below { elim result [ None ↦ Unit {0} | Some k ↦ k < 2 ^ 31 ] }
     {
-        // back through the even rounds, by their numbers: going back through rounds is a loop downwards
+        // by a loop over rounds downwards, and not `find`: a rule of the project for all that goes back through rounds
         for k in (0..last / 2 + 1).rev() {
             if self.voted_at(k) {
                 return Some(k);

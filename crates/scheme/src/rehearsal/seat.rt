@@ -74,7 +74,7 @@ impl Scheme<SIGNATURE_LENGTH> for Rehearsal {
     ghost said = { seat_said };
 
     fn check(&self, member: u32, message: &[u8], signature: &[u8]) -> bool {
-        // two cases, of which the proof shows each; `is_some_and` would say the same
+        // two cases: with `is_some_and` in their place the check leaves the clauses unproved
         match self.keys.secrets.get(member as usize) {
             Some(secret) => equal(signature, &signature_by(secret, message)),
             None => false,
