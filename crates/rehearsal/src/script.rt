@@ -8,6 +8,7 @@ ghost use Rattle.rehearsal.specs.Answering.{Tells, Responds, Opens, yes_no};
 
 use crate::command::Command;
 use crate::committee::Committee;
+use book::Book;
 use lines::buffer::TooLong;
 use std::alloc::AllocError;
 
@@ -46,6 +47,13 @@ impl<'a> Player<'a> {
             committee,
             opening: true,
         }
+    }
+
+    /// The book that all members read.
+    pub fn book(&self) -> &Book<'a>
+        ensures { result.now ≡ self.now.committee.book }
+    {
+        self.committee.book()
     }
 }
 

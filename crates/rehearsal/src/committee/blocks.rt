@@ -2,15 +2,17 @@
 ghost use Rattle.std.specs.Prelude.{◌≡◌, ℕ, List, IfOk, Some, None};
 ghost use Rattle.book.specs.Books.{memory};
 ghost use Rattle.book.specs.Meeting.{shown};
+ghost use Rattle.lines.specs.Left.{left};
 ghost use Rattle.rehearsal.specs.Answering.{LoadIs, Introduced};
 ghost use Rattle.rehearsal.specs.Commands.{described};
 ghost use Rattle.rehearsal.specs.Scenes.{Scene};
-ghost use Rattle.rehearsal.specs.Played.{Plays, Meets};
+ghost use Rattle.rehearsal.specs.Played.{Plays, Meets, Named};
 
 use super::Committee;
 use crate::command::BlockLine;
 use book::Block;
 use lines::hex;
+use lines::words::Words;
 use std::alloc::{AllocError, Global};
 
 /// The authors of a script's blocks are below this.
@@ -51,37 +53,56 @@ impl Committee<'_> {
         Ok(Some(name))
     }
 
-    /// A word for a block, as a line describes it: the block's name, if it could be given. It could if the word isn't in use, the author and the
-    /// round aren't too large, the load is bytes, each parent's word stands for a block, and the book takes the block.
+    /// A word for a block: the block's name, if it could be given. It could if the word isn't in use, the author and the round aren't too large, each
+    /// parent's word stands for a block, and the book takes the block.
     // A `Result` of an `Option`, and no one error for both: that a block can't be named is an answer, after which the script goes on, while want of
     // memory ends the program, so that the caller would have to take the two apart again.
+    pub fn name_block(
+        &mut self,
+        word: &[u8],
+        author: u32,
+        round: u32,
+        load: &[u8],
+        parents: Words<'_>,
+    ) -> Result<Option<u32>, AllocError>
+        ensures plays { IfOk result (λ o. (s : Scene) → Plays s self.old →
+            Named (memory self.old.book) s word.now author round load.now (left parents.entry) o self.new) }
+        ensures lent { memory self.new.book ≡ memory self.old.book }
+    {
+        if author >= AUTHORS || round >= ROUNDS || self.words.name_of(word).is_some() {
+            return Ok(None);
+        }
+        let Some(names) = self.words.names_of(parents)? else {
+            return Ok(None);
+        };
+        let block = Block {
+            author,
+            round,
+            parents: names.as_slice(),
+            load,
+        };
+        let Some(name) = self.meet(block)? else {
+            return Ok(None);
+        };
+        self.words.add(word, name)?;
+        Ok(Some(name))
+    }
+
+    /// The same for a block as a line describes it, whose load is still to be read: it must be bytes.
     pub fn block(&mut self, line: BlockLine<'_>) -> Result<Option<u32>, AllocError>
         ensures plays { IfOk result (λ o. (s : Scene) → Plays s self.old →
             Introduced (memory self.old.book) s (described line.entry) o self.new) }
         ensures lent { memory self.new.book ≡ memory self.old.book }
     {
-        if line.author >= AUTHORS
-            || line.round >= ROUNDS
-            || self.words.name_of(line.word).is_some()
-        {
-            return Ok(None);
-        }
         let Some(load) = load_of(self.heap, line.load)? else {
             return Ok(None);
         };
-        let Some(parents) = self.words.names_of(line.parents)? else {
-            return Ok(None);
-        };
-        let block = Block {
-            author: line.author,
-            round: line.round,
-            parents: parents.as_slice(),
-            load: load.as_slice(),
-        };
-        let Some(name) = self.meet(block)? else {
-            return Ok(None);
-        };
-        self.words.add(line.word, name)?;
-        Ok(Some(name))
+        self.name_block(
+            line.word,
+            line.author,
+            line.round,
+            load.as_slice(),
+            line.parents,
+        )
     }
 }

@@ -29,6 +29,13 @@ impl<'a> Committee<'a> {
             book,
         })
     }
+
+    /// The book that all members read.
+    pub fn book(&self) -> &Book<'a>
+        ensures { result.now ≡ self.now.book }
+    {
+        &self.book
+    }
 }
 
 impl Committee<'_> {
