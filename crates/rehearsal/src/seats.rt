@@ -16,6 +16,7 @@ use replica::{Denied, LeaveToSign, ROOM, Replica, Seat};
 use std::alloc::{AllocError, Global};
 
 /// The members' seats, each at its number's place.
+// Member, book, committee and name come apart in its calls, as in those of the trait of seats.
 #[derive(Drop)]
 pub struct Seats {
     seats: Vec<Replica>,
@@ -27,6 +28,7 @@ impl Seats {
         ensures { IfOk result (λ s. Sit (new_members count) s.seats.items) }
     {
         let mut seats = Vec::new(heap);
+        // by the members' numbers; a chain that collects them would say no less than the loop
         for i in 0..count {
             seats.push(<Replica as Seat>::fresh(i))?;
         }

@@ -41,7 +41,7 @@ impl Committee<'_> {
         ensures { IfOk result (λ line. line.items ≡ joined (map (λ (x : ℕ). text_for x self.now.words) names.now)) }
     {
         let mut line = Vec::new(self.heap);
-        // a loop, since what joins words at once joins text, and a script's words are any bytes
+        // a loop, since the standard library's `join` is for text, and a script's words are any bytes
         for (i, name) in names.iter().enumerate() {
             if i > 0 {
                 line.push(b' ')?;
