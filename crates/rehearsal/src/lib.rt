@@ -11,6 +11,8 @@ mod notes;
 mod playing;
 mod script;
 mod seats;
+#[cfg(test)]
+mod tests;
 
 pub use act::Act;
 pub use asked::{NoCommittee, faults_of};
