@@ -6,7 +6,7 @@ use Rattle.model.specs.Blocks.{Block, max_parents, max_load}
 use Rattle.book.specs.declared.entry.Entry.{Entry}
 use Rattle.book.specs.Content.{empty_block, max_blocks, stretch, block_at, blocks_of, empty_entry, Placed, AllPlaced}
 use Rattle.book.specs.Meeting.{block_of}
-use Rattle.book.specs.Memory.{parents_of_all, bytes_of_all, Tabled}
+use Rattle.book.specs.Memory.{Lent, parents_of_all, bytes_of_all, HasRoom, Within, Tabled}
 use Rattle.book.proofs.Blocks.{how_many, block_there}
 
 parents_of_more : (ks : List Block) (k : Block) → parents_of_all (ks ++ k ∷ []) ≡ parents_of_all ks + length k.parents
@@ -18,6 +18,14 @@ bytes_of_more : (ks : List Block) (k : Block) → bytes_of_all (ks ++ k ∷ []) 
 unfolding bytes_of_all
 bytes_of_more [] k = omega arith
 bytes_of_more (x ∷ ks) k = let ih = bytes_of_more ks k in omega arith
+
+-- the blocks with one more, for which there is room, fit into the lent memory
+pub within_more : (l : Lent) (ks : List Block) (k : Block) → HasRoom l ks (length k.parents) (length k.load) → Within l (ks ++ k ∷ [])
+within_more l ks k room =
+    let longer = length_push ks k in
+    let parents = parents_of_more ks k in
+    let bytes = bytes_of_more ks k in
+    record { few = omega arith; blocks_fit = omega arith; parents_fit = omega arith; bytes_fit = omega arith }
 
 -- a stretch that ends within a table is the same in a longer one, and what was added to a table is a stretch of it
 stretch_kept : (xs more : List ℕ) (from n : ℕ) → from + n ≤ length xs → stretch (xs ++ more) from n ≡ stretch xs from n
@@ -66,7 +74,7 @@ blocks_more es ps ls k placed =
     ap (λ (x : List ℕ). blocks_of es ps ls ++ (block_of k.author k.round k.parents x ∷ [])) (stretch_added ls k.load)
 
 -- what holds of each element of a list, by its place, and of one more, holds of each with that one at the end
-each_more :
+pub each_more :
     {X : Type 0} (P : ℕ → X → Type 0) (xs : List X) (y d : X) → ((i : ℕ) → i < length xs → P i (get_or xs i d)) → P (length xs) y →
     (i : ℕ) → i < length (xs ++ y ∷ []) → P i (get_or (xs ++ y ∷ []) i d)
 each_more {X} P xs y d old new i h =

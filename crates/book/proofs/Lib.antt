@@ -1,4 +1,5 @@
 mod Blocks
 mod Finding
 mod Filling
+mod Growing
 mod Below

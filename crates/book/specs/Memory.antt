@@ -32,6 +32,13 @@ abbrev pub HasRoom : Lent → List Block → ℕ → ℕ → Type 0
 HasRoom l blocks parents bytes =
     (length blocks < max_blocks) × (length blocks < l.blocks) × (parents_of_all blocks + parents ≤ l.parents) × (bytes_of_all blocks + bytes ≤ l.bytes)
 
+-- the blocks are no more than a book may have, and they fit into the memory that is lent
+pub record Within (l : Lent) (blocks : List Block) : Type 0 where
+  pub few : length blocks ≤ max_blocks
+  pub blocks_fit : length blocks ≤ l.blocks
+  pub parents_fit : parents_of_all blocks ≤ l.parents
+  pub bytes_fit : bytes_of_all blocks ≤ l.bytes
+
 -- What always holds of the three tables: they have no more than a book may have, the tables of parents and of loads have what the blocks need,
 -- which is no more than that many blocks may need, and each entry's stretches lie in them.
 pub record Tabled (entries : List Entry) (parents loads : List ℕ) : Type 0 where

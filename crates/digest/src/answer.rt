@@ -21,7 +21,10 @@ pub fn answer(heap: Global, line: &[u8]) -> Result<Vec<u8>, AllocError>
 fn refusal(heap: Global) -> Result<Vec<u8>, AllocError>
     ensures { IfOk result (λ v. v.items ≡ codes "no") }
 {
-    Vec::from_slice(heap, b"no")
+    // `Vec::from_slice` makes room for no byte more, and the line's end would ask for memory again
+    let mut text = Vec::new(heap);
+    text.extend_from_slice(b"no")?;
+    Ok(text)
 }
 
 /// Both digests of a message as text.

@@ -4,7 +4,24 @@ use Rattle.std.proofs.lemmas.List.{take_rest}
 use Rattle.std.proofs.lemmas.Bool.{eq-eqb, ne_eqb, cond-true, cond-false, eqb-true, or_from, or_parts, true≢false}
 use Rattle.lines.proofs.Both.{and_left, and_right}
 use Rattle.lines.specs.Left.{left_of}
-use Rattle.lines.specs.Words.{space, has, in_front, words_of, none, joined, spaceless, WordsJoin}
+use Rattle.lines.specs.Words.{space, has, place_of, in_front, words_of, none, joined, spaceless, WordsJoin}
+
+-- the place of the first byte like this is i, where one stands and none before it
+pub place_here : (c : ℕ) (bs : List ℕ) (i : ℕ) → i < length bs → get_or bs i 0 ≡ c → ((k : ℕ) → k < i → get_or bs k 0 ≡ c → ⊥) → i ≡ place_of c bs
+unfolding place_of
+place_here c [] i h e before = absurd (omega arith)
+place_here c (b ∷ bs) zero h e before = sym (cond-true (eqb b c) 0 (suc (place_of c bs)) (eq-eqb b c e))
+place_here c (b ∷ bs) (suc i) h e before =
+    ap suc (place_here c bs i (omega arith) e (λ k l. before (suc k) (omega arith)))
+    ∙ sym (cond-false (eqb b c) 0 (suc (place_of c bs)) (ne_eqb b c (before 0 (omega arith))))
+
+-- the length, where none stands
+pub place_end : (c : ℕ) (bs : List ℕ) → ((k : ℕ) → k < length bs → get_or bs k 0 ≡ c → ⊥) → length bs ≡ place_of c bs
+unfolding place_of
+place_end c [] none = refl
+place_end c (b ∷ bs) none =
+    ap suc (place_end c bs (λ k l. none (suc k) (omega arith)))
+    ∙ sym (cond-false (eqb b c) 0 (suc (place_of c bs)) (ne_eqb b c (none 0 (omega arith))))
 
 -- a line whose first space stands at place i: the word before it, and the words behind it
 first_word : (bs : List ℕ) (i : ℕ) → i < length bs → get_or bs i 0 ≡ space → ((k : ℕ) → k < i → get_or bs k 0 ≡ space → ⊥) →

@@ -1,3 +1,4 @@
+mod Keeping
 mod Both
 mod Digits
 mod Cuts

@@ -1,8 +1,14 @@
 -- Bytes and their hexadecimal digits, two by two. Assumes nothing.
-use Rattle.std.proofs.Common.{◌≡◌, ℕ, ◌+◌, ◌*◌, ◌/◌, ◌%◌, ◌<◌, ◌≤◌, T, ltb, List, [], ◌∷◌, length, sym, refl, ap, ◌∙◌, ap₂, arith, ltb→lt, lt→ltb, Some, None, Option}
+use Rattle.std.proofs.Common.{◌≡◌, ℕ, ◌+◌, ◌*◌, ◌/◌, ◌%◌, ◌<◌, ◌≤◌, T, ltb, List, [], ◌∷◌, ◌++◌, length, sym, refl, ap, ◌∙◌, ap₂, arith, ltb→lt, lt→ltb, Some, None, Option}
 use Rattle.std.proofs.lemmas.Bool.Decides.{nat_tests}
 use Rattle.lines.proofs.Both.{and_left, and_right, both}
 use Rattle.lines.specs.Hex.{digit_of, character_of, paired, byte_of, before, decoded, hex_of, all_bytes, Spells}
+
+-- the digits of more bytes stand behind those of the first
+pub hex-++ : (xs ys : List ℕ) → hex_of (xs ++ ys) ≡ hex_of xs ++ hex_of ys
+unfolding hex_of
+hex-++ [] ys = refl
+hex-++ (x ∷ xs) ys = ap (λ l. character_of (x / 16) ∷ character_of (x % 16) ∷ l) (hex-++ xs ys)
 
 hex-length : (bytes : List ℕ) → length (hex_of bytes) ≡ 2 * length bytes
 unfolding hex_of

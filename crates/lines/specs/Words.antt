@@ -1,5 +1,5 @@
 -- The words of a line, separated by one space. Assumes nothing.
-use Rattle.std.specs.Prelude.{◌≡◌, ℕ, Bool, true, false, cond, not, ◌&&◌, ◌||◌, T, List, [], ◌∷◌, ◌++◌, length, ◌==◌}
+use Rattle.std.specs.Prelude.{◌≡◌, ℕ, suc, Bool, true, false, cond, not, ◌&&◌, ◌||◌, T, List, [], ◌∷◌, ◌++◌, length, ◌==◌}
 
 abbrev pub space : ℕ
 space = 32
@@ -8,6 +8,11 @@ space = 32
 unfoldable pub has : ℕ → List ℕ → Bool
 has sought [] = false
 has sought (b ∷ bs) = b == sought || has sought bs
+
+-- the place of the first byte like this, or the length where there is none
+unfoldable pub place_of : ℕ → List ℕ → ℕ
+place_of sought [] = 0
+place_of sought (b ∷ bs) = cond (b == sought) 0 (suc (place_of sought bs))
 
 -- a byte in front of the first word
 abbrev pub in_front : ℕ → List (List ℕ) → List (List ℕ)

@@ -22,12 +22,12 @@ impl fmt::Display for TooLong {
 
 impl error::Error for TooLong {}
 
-/// The bytes of a line that have come so far, or that there are more than a line may have, which takes no memory.
-// Contracts say by `Keeps` which lines it may hold, and no line as its value (an `impl Model`): of a line that is too long it holds nothing.
+/// The bytes of a line that have come so far, or that there are more than a line may have: then its first bytes stay, so that the next line is held in
+/// the same memory.
 #[derive(Drop)]
 pub struct LineBuffer {
-    heap: Global,
-    bytes: Result<Vec<u8>, TooLong>,
+    bytes: Vec<u8>,
+    whole: Result<(), TooLong>,
 }
 
 impl LineBuffer {
@@ -36,8 +36,8 @@ impl LineBuffer {
         ensures { Keeps result [] }
     {
         LineBuffer {
-            heap,
-            bytes: Ok(Vec::new(heap)),
+            bytes: Vec::new(heap),
+            whole: Ok(()),
         }
     }
 
@@ -45,13 +45,10 @@ impl LineBuffer {
     pub fn push(&mut self, byte: u8) -> Result<(), AllocError>
         ensures { (line : List ℕ) → Keeps self.old line → Keeps self.new (if is_ok result then line ++ (byte ∷ []) else line) }
     {
-        let Ok(bytes) = &mut self.bytes else {
-            return Ok(());
-        };
-        if bytes.len() < LONGEST {
-            bytes.push(byte)?;
+        if self.bytes.len() < LONGEST {
+            self.bytes.push(byte)?;
         } else {
-            self.bytes = Err(TooLong);
+            self.whole = Err(TooLong);
         }
         Ok(())
     }
@@ -60,7 +57,7 @@ impl LineBuffer {
     pub fn is_empty(&self) -> bool
         ensures { (line : List ℕ) → Keeps self.now line → result ≡ (length line == 0) }
     {
-        matches!(&self.bytes, Ok(bytes) if bytes.is_empty())
+        self.bytes.is_empty()
     }
 
     /// The line, unless it is too long.
@@ -68,9 +65,9 @@ impl LineBuffer {
         ensures { (line : List ℕ) → Keeps self.now line →
             MatchResult result (λ bytes. (bytes.now ≡ line) × (length line ≤ longest)) (λ _. longest < length line) }
     {
-        match &self.bytes {
-            Ok(bytes) => Ok(bytes.as_slice()),
-            Err(why) => Err(*why),
+        match self.whole {
+            Ok(()) => Ok(self.bytes.as_slice()),
+            Err(why) => Err(why),
         }
     }
 
@@ -78,9 +75,7 @@ impl LineBuffer {
     pub fn clear(&mut self)
         ensures { Keeps self.new [] }
     {
-        match &mut self.bytes {
-            Ok(bytes) => bytes.clear(),
-            Err(_) => self.bytes = Ok(Vec::new(self.heap)),
-        }
+        self.bytes.clear();
+        self.whole = Ok(());
     }
 }

@@ -1,5 +1,5 @@
 // The bytes of an input one by one, read a chunk at a time into memory of the reader's own.
-ghost use Rattle.std.specs.Prelude.{◌≡◌, ◌≤◌, []};
+ghost use Rattle.std.specs.Prelude.{◌≡◌, ◌≤◌, ◌<◌, [], ◌∷◌};
 ghost use Rattle.lines.specs.declared.chunks.TheConstants.{CHUNK};
 
 use std::io;
@@ -20,6 +20,8 @@ pub(crate) struct Chunks<R> {
 }
 
 impl<R: Read> Chunks<R> {
+    ghost use Rattle.std.specs.Prelude.{MatchResult};
+    ghost use Rattle.std.specs.Io.KnownBytes.{Keeps, IsAtEnd};
     ghost use Rattle.lines.specs.Chunks.{unread, to_come, GivesByte};
 
     // Contracts say by `to_come` which bytes will be given, and no list is the value of this (an `impl Model`): of the input's it is known for some inputs alone.
@@ -40,12 +42,35 @@ impl<R: Read> Chunks<R> {
     pub(crate) fn next_byte(&mut self) -> io::Result<Option<u8>>
         ensures { GivesByte (to_come R.remaining self.old) (to_come R.remaining self.new) result }
     {
+        self.fill()?;
+        if self.waiting.is_empty() {
+            return Ok(None);
+        }
+        Ok(Some(self.give()))
+    }
+
+    // Reads a chunk, if all of the last one is given. What is to come stays the same. (A function of its own, and the next as well: with all in one, and
+    // `next` of the range, each byte took half as many instructions again.)
+    fn fill(&mut self) -> io::Result<()>
+        ensures { MatchResult result
+            (λ _. Keeps (to_come R.remaining self.old) (to_come R.remaining self.new)
+            × (self.new.waiting.end ≤ self.new.waiting.start → IsAtEnd (to_come R.remaining self.new)))
+            (λ _. Keeps (to_come R.remaining self.old) (to_come R.remaining self.new)) }
+    {
         if self.waiting.is_empty() {
             self.waiting = 0..self.input.read(&mut self.chunk)?;
         }
-        let Some(place) = self.waiting.next() else {
-            return Ok(None);
-        };
-        Ok(Some(self.chunk[place]))
+        Ok(())
+    }
+
+    // The first byte of the chunk that wasn't given yet.
+    fn give(&mut self) -> u8
+        requires { self.old.waiting.start < self.old.waiting.end }
+        ensures byte { unread self.old ≡ result ∷ unread self.new }
+        ensures input { self.new.input ≡ self.old.input }
+    {
+        let place = self.waiting.start;
+        self.waiting.start += 1;
+        self.chunk[place]
     }
 }

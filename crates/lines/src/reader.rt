@@ -47,7 +47,9 @@ impl<R: Read> LineReader<R> {
         Ok(Some(self.line.line()))
     }
 
-    /// Reads the next line into the buffer, and says whether there was one. (A function of its own: `next_line` lends the buffer, which is filled before.)
+    /// Reads the next line into the buffer, and says whether there was one. (A function of its own: `next_line` lends the buffer, which is filled before.
+    /// It isn't written out where it is called: there each byte took more instructions, for the errors that the caller passes on.)
+    #[inline(never)]
     fn read(&mut self) -> io::Result<bool>
         ensures { MatchResult result
             (λ there. MatchBool there

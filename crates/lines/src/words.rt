@@ -1,10 +1,20 @@
 // The words of a line, separated by one space.
 ghost use Rattle.std.specs.Prelude.{◌≡◌};
 ghost use Rattle.std.specs.Iterator.{YieldsFirstRef, item_count};
-ghost use Rattle.lines.specs.Words.{words_of, none, WordsJoin};
+ghost use Rattle.lines.specs.Words.{place_of, words_of, none, WordsJoin};
 ghost use Rattle.lines.specs.Left.{left};
 
 const SPACE: u8 = b' ';
+
+/// The place of the first byte like this, or the length where there is none.
+pub fn place_of(sought: u8, bytes: &[u8]) -> usize
+    ensures { result ≡ place_of sought bytes.now }
+{
+    match bytes.iter().position(|byte| *byte == sought) {
+        Some(place) => place,
+        None => bytes.len(),
+    }
+}
 
 /// The words of a line that are left to read. Where two spaces follow one another, or one stands at an end, a word is empty.
 // The library's `Split` holds its closure, whose type has no name that a field could have; the crate bstr's can't be copied.

@@ -1,5 +1,5 @@
 // What happened to the blocks: who signed each, and whether its author really made it.
-ghost use Rattle.std.specs.Prelude.{◌≡◌, ℕ, ◌+◌, ◌<◌, List, ◌∷◌, length, OnOk, IfOk, ◌==◌, slice_index_or, replicate, vec_len, vec_capacity};
+ghost use Rattle.std.specs.Prelude.{◌≡◌, ℕ, ◌+◌, ◌<◌, List, ◌∷◌, length, OnOk, IfOk, ◌==◌, slice_index_or, replicate, vec_len, vec_capacity, Decides};
 ghost use Rattle.model.specs.World.{Signature};
 ghost use Rattle.rehearsal.specs.Noted.{no_note, Noted};
 
@@ -48,6 +48,13 @@ impl Notes {
         ensures { result ≡ (length self.now.notes.items == 0) }
     {
         self.notes.is_empty()
+    }
+
+    /// Whether there is room for one more block.
+    pub fn has_room(&self) -> bool
+        ensures { Decides result (vec_len self.now.notes < vec_capacity self.now.notes) }
+    {
+        self.notes.len() < self.notes.capacity()
     }
 
     /// Room for one more block.

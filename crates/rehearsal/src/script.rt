@@ -55,6 +55,13 @@ impl<'a> Player<'a> {
     {
         self.committee.book()
     }
+
+    /// The book, which outlives the player.
+    pub fn into_book(self) -> Book<'a>
+        ensures { result ≡ self.entry.committee.book }
+    {
+        self.committee.into_book()
+    }
 }
 
 impl Player<'_> {

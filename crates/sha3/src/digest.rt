@@ -47,6 +47,7 @@ impl Hasher<LENGTH_512> {
 
 impl<const LENGTH: usize> Hasher<LENGTH> {
     /// A hasher that was fed nothing.
+    #[tactic(auto, unfolding(crate::specs::Holding::Fed, crate::specs::Holding::Holds))]
     fn empty() -> Self
         requires { 2 * LENGTH < 200 }
         ensures { Holds LENGTH result.sponge [] }

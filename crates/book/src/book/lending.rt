@@ -1,7 +1,7 @@
 // Making a book from lent memory, and lending it for reading.
 ghost use Rattle.std.specs.Prelude.{◌≡◌, [], length};
 ghost use Rattle.book.specs.Views.{held};
-ghost use Rattle.book.specs.Memory.{lent_by};
+ghost use Rattle.book.specs.Memory.{lent_by, Within};
 ghost use Rattle.book.specs.Books.{blocks, memory};
 
 use super::Book;
@@ -25,6 +25,13 @@ impl<'a> Book<'a> {
         ensures { result ≡ length (blocks self.now) }
     {
         self.tables.len()
+    }
+
+    /// A law of every book, however it came about: its blocks fit into the memory that was lent.
+    pub fn always_fits(&self) -> u8
+        ensures { Within (memory self.now) (blocks self.now) }
+    {
+        0
     }
 
     /// The blocks, for reading.

@@ -1,8 +1,8 @@
 // Meeting blocks: each gets its name.
-ghost use Rattle.std.specs.Prelude.{◌≡◌, T, length, nat_le};
+ghost use Rattle.std.specs.Prelude.{◌≡◌, T, length, nat_le, Decides};
 ghost use Rattle.model.specs.Names.{all_below};
 ghost use Rattle.model.specs.Blocks.{max_load, byte_limit};
-ghost use Rattle.book.specs.Meeting.{shown, Meets};
+ghost use Rattle.book.specs.Meeting.{shown, Addable, Meets};
 ghost use Rattle.book.specs.Books.{blocks, memory};
 
 use super::Book;
@@ -34,6 +34,17 @@ impl Book<'_> {
         }
         self.tables.push(block);
         Ok(next)
+    }
+
+    /// Whether `meet` would add the block to the book.
+    pub fn would_add(&self, block: Block<'_>) -> bool
+        ensures { Decides result (Addable (memory self.now) (blocks self.now) (shown block.entry)) }
+    {
+        block.parents.len() <= MAX_PARENTS
+            && is_short(block.load)
+            && self.tables.has_room(block.parents.len(), block.load.len())
+            && all_below(self.len(), block.parents)
+            && self.view().find(block).is_none()
     }
 }
 

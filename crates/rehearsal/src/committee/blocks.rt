@@ -1,7 +1,7 @@
 // Blocks and the words for them.
-ghost use Rattle.std.specs.Prelude.{◌≡◌, ℕ, List, IfOk, Some, None};
-ghost use Rattle.book.specs.Books.{memory};
-ghost use Rattle.book.specs.Meeting.{shown};
+ghost use Rattle.std.specs.Prelude.{◌≡◌, ℕ, ◌<◌, List, IfOk, OnOk, Some, None, vec_len, vec_capacity};
+ghost use Rattle.book.specs.Books.{blocks, memory};
+ghost use Rattle.book.specs.Meeting.{shown, Addable};
 ghost use Rattle.lines.specs.Left.{left};
 ghost use Rattle.rehearsal.specs.Answering.{LoadIs, Introduced};
 ghost use Rattle.rehearsal.specs.Commands.{described};
@@ -10,7 +10,8 @@ ghost use Rattle.rehearsal.specs.Played.{Plays, Meets, Named};
 
 use super::Committee;
 use crate::command::BlockLine;
-use book::Block;
+use crate::notes::Notes;
+use book::{Block, Book};
 use lines::hex;
 use lines::words::Words;
 use std::alloc::{AllocError, Global};
@@ -34,6 +35,18 @@ fn load_of(heap: Global, word: &[u8]) -> Result<Option<Vec<u8>>, AllocError>
     hex::bytes_of(heap, word)
 }
 
+// Room for a block's note, if the book will add the block: none is asked for where the book has it or refuses it.
+fn make_room(notes: &mut Notes, book: &Book<'_>, block: Block<'_>) -> Result<(), AllocError>
+    ensures same { notes.new.notes.items ≡ notes.old.notes.items }
+    ensures room { OnOk result (Addable (memory book.now) (blocks book.now) (shown block.entry) →
+        vec_len notes.new.notes < vec_capacity notes.new.notes) }
+{
+    if notes.has_room() || !book.would_add(block) {
+        return Ok(());
+    }
+    notes.make_room()
+}
+
 impl Committee<'_> {
     // The name of a block, unless it can't be in the book.
     fn meet(&mut self, block: Block<'_>) -> Result<Option<u32>, AllocError>
@@ -42,7 +55,7 @@ impl Committee<'_> {
         ensures lent { memory self.new.book ≡ memory self.old.book }
     {
         // room for the note comes first: where memory runs out, the book must not have grown
-        self.notes.make_room()?;
+        make_room(&mut self.notes, &self.book, block)?;
         let next = self.book.len();
         let Ok(name) = self.book.meet(block) else {
             return Ok(None);

@@ -36,6 +36,13 @@ impl<'a> Committee<'a> {
     {
         &self.book
     }
+
+    /// The book, which outlives the committee.
+    pub fn into_book(self) -> Book<'a>
+        ensures { result ≡ self.entry.book }
+    {
+        self.book
+    }
 }
 
 impl Committee<'_> {

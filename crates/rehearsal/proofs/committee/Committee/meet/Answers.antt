@@ -13,14 +13,14 @@ use Rattle.rehearsal.proofs.committee.Committee.meet.Goals as goal
 pub invariant_of-self : goal.invariant_of-self
 invariant_of-self c = record {
   played = ∥∥₁_map c.args.self.now.played (λ w.
-      (w.0, same-blocks w.0 (parts c.args.self.now) (record (parts c.args.self.now) { notes = c.make_room.new.self }) w.1 refl c.make_room.ensures.same refl refl refl refl));
+      (w.0, same-blocks w.0 (parts c.args.self.now) (record (parts c.args.self.now) { notes = c.make_room.new.notes }) w.1 refl c.make_room.ensures.same refl refl refl refl));
 }
 
 pub invariant_of-self-in_default : goal.invariant_of-self-in_default
 invariant_of-self-in_default c = record {
   played = ∥∥₁_map c.args.self.now.played (λ w. (
     w.0,
-    same-blocks w.0 (parts c.args.self.now) (record (parts c.args.self.now) { book = c.meet.new.self; notes = c.make_room.new.self }) w.1
+    same-blocks w.0 (parts c.args.self.now) (record (parts c.args.self.now) { book = c.meet.new.self; notes = c.make_room.new.notes }) w.1
         c.in_default.ensures.met.same c.make_room.ensures.same refl refl refl refl,
   ));
 }
@@ -29,7 +29,7 @@ pub invariant_of-self-else-name-next : goal.invariant_of-self-else-name-next
 invariant_of-self-else-name-next c = record {
   played = ∥∥₁_map c.args.self.now.played (λ w. (
     w.0,
-    same-blocks w.0 (parts c.args.self.now) (record (parts c.args.self.now) { book = c.meet.new.self; notes = c.make_room.new.self }) w.1
+    same-blocks w.0 (parts c.args.self.now) (record (parts c.args.self.now) { book = c.meet.new.self; notes = c.make_room.new.notes }) w.1
         (met_known (memory c.args.self.now.book) _ _ (shown c.args.block) c.in-Ok.name c.in-Ok.ensures.met (λ e. c.if-name-next.false (e ∙ sym c.len-next.ensures)))
         c.make_room.ensures.same refl refl refl refl,
   ));
