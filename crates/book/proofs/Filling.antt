@@ -20,12 +20,23 @@ bytes_of_more [] k = omega arith
 bytes_of_more (x ∷ ks) k = let ih = bytes_of_more ks k in omega arith
 
 -- the blocks with one more, for which there is room, fit into the lent memory
-pub within_more : (l : Lent) (ks : List Block) (k : Block) → HasRoom l ks (length k.parents) (length k.load) → Within l (ks ++ k ∷ [])
-within_more l ks k room =
+pub within_more :
+    (l : Lent) (ks : List Block) (k : Block) → Within l ks → length k.parents ≤ max_parents → length k.load ≤ max_load →
+    HasRoom l ks (length k.parents) (length k.load) → Within l (ks ++ k ∷ [])
+within_more l ks k old few short room =
     let longer = length_push ks k in
     let parents = parents_of_more ks k in
     let bytes = bytes_of_more ks k in
-    record { few = omega arith; blocks_fit = omega arith; parents_fit = omega arith; bytes_fit = omega arith }
+    let were_few = old.few_parents in
+    let were_short = old.short_loads in
+    record {
+      few = omega arith;
+      blocks_fit = omega arith;
+      parents_fit = omega arith;
+      bytes_fit = omega arith;
+      few_parents = omega arith;
+      short_loads = omega arith;
+    }
 
 -- a stretch that ends within a table is the same in a longer one, and what was added to a table is a stretch of it
 stretch_kept : (xs more : List ℕ) (from n : ℕ) → from + n ≤ length xs → stretch (xs ++ more) from n ≡ stretch xs from n

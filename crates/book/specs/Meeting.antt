@@ -41,7 +41,7 @@ pub record Acceptable (blocks : List Block) (k : Block) : Type 0 where
   pub short_load : length k.load ≤ max_load
   pub parents_there : T (all_below (length blocks) k.parents)
 
--- the block would be added to the book: it isn't too large, its parents are there, it isn't, and it finds room
+-- the block would be added to the book: it isn't too large, its parents are there, it isn't in the book yet, and it finds room
 pub record Addable (l : Lent) (blocks : List Block) (k : Block) : Type 0 where
   pub acceptable : Acceptable blocks k
   pub absent : Absent blocks k

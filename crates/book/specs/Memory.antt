@@ -38,6 +38,8 @@ pub record Within (l : Lent) (blocks : List Block) : Type 0 where
   pub blocks_fit : length blocks ≤ l.blocks
   pub parents_fit : parents_of_all blocks ≤ l.parents
   pub bytes_fit : bytes_of_all blocks ≤ l.bytes
+  pub few_parents : parents_of_all blocks ≤ max_parents * length blocks
+  pub short_loads : bytes_of_all blocks ≤ max_load * length blocks
 
 -- What always holds of the three tables: they have no more than a book may have, the tables of parents and of loads have what the blocks need,
 -- which is no more than that many blocks may need, and each entry's stretches lie in them.

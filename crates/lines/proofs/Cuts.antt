@@ -1,5 +1,5 @@
 -- A line's words: its first space, and what stands before and after it. Assumes nothing.
-use Rattle.std.proofs.Common.{◌≡◌, ℕ, zero, suc, ◌+◌, ◌-◌, ◌<◌, Bool, true, false, cond, not, ◌||◌, T, eqb, List, [], ◌∷◌, ◌++◌, length, get_or, take, drop, is_some, Some, None, Option, sym, refl, ap, ◌∙◌, arith, Bor}
+use Rattle.std.proofs.Common.{◌≡◌, ℕ, zero, suc, ◌+◌, ◌-◌, ◌<◌, ◌≤◌, Bool, true, false, cond, not, ◌||◌, T, eqb, List, [], ◌∷◌, ◌++◌, length, get_or, take, drop, is_some, Some, None, Option, sym, refl, ap, ◌∙◌, arith, Bor}
 use Rattle.std.proofs.lemmas.List.{take_rest}
 use Rattle.std.proofs.lemmas.Bool.{eq-eqb, ne_eqb, cond-true, cond-false, eqb-true, or_from, or_parts, true≢false}
 use Rattle.lines.proofs.Both.{and_left, and_right}
@@ -22,6 +22,16 @@ place_end c [] none = refl
 place_end c (b ∷ bs) none =
     ap suc (place_end c bs (λ k l. none (suc k) (omega arith)))
     ∙ sym (cond-false (eqb b c) 0 (suc (place_of c bs)) (ne_eqb b c (none 0 (omega arith))))
+
+-- it is a place, or the length
+pub place_within : (c : ℕ) (bs : List ℕ) → place_of c bs ≤ length bs
+unfolding place_of
+place_within c [] = omega arith
+place_within c (b ∷ bs) = let rest = place_within c bs in go (eqb b c) (place_of c bs) rest
+  where
+    go : (t : Bool) (p : ℕ) → p ≤ length bs → cond t 0 (suc p) ≤ suc (length bs)
+    go true p h = omega arith
+    go false p h = omega arith
 
 -- a line whose first space stands at place i: the word before it, and the words behind it
 first_word : (bs : List ℕ) (i : ℕ) → i < length bs → get_or bs i 0 ≡ space → ((k : ℕ) → k < i → get_or bs k 0 ≡ space → ⊥) →

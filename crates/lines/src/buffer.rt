@@ -24,6 +24,7 @@ impl error::Error for TooLong {}
 
 /// The bytes of a line that have come so far, or that there are more than a line may have: then its first bytes stay, so that the next line is held in
 /// the same memory.
+// Contracts say by `Keeps` which lines it may hold, and no line as its value (an `impl Model`): of a line that is too long it holds a part alone.
 #[derive(Drop)]
 pub struct LineBuffer {
     bytes: Vec<u8>,

@@ -10,6 +10,7 @@ const SPACE: u8 = b' ';
 pub fn place_of(sought: u8, bytes: &[u8]) -> usize
     ensures { result ≡ place_of sought bytes.now }
 {
+    // two cases, since the check finds no proof of `unwrap_or`
     match bytes.iter().position(|byte| *byte == sought) {
         Some(place) => place,
         None => bytes.len(),

@@ -9,7 +9,7 @@ use Rattle.book.proofs.book.Book.meet.Goals as goal
 pub invariant_of-self-clause-fits : goal.invariant_of-self-clause-fits
 invariant_of-self-clause-fits c =
     let t = c.args.self.now.tables in
-    rw (c.push.ensures.lent, c.push.ensures.grown) (within_more t.lent t.content (shown c.args.block) (search rules))
+    rw (c.push.ensures.lent, c.push.ensures.grown) (within_more t.lent t.content (shown c.args.block) c.args.self.now.fits (search rules) (search rules) (search rules))
 
 pub invariant_of-self-clause-apart : goal.invariant_of-self-clause-apart
 invariant_of-self-clause-apart c =
