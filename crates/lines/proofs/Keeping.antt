@@ -26,11 +26,11 @@ one_more whole kept line b front held room =
       still_held whole (length line) (length (line ++ (b ∷ []))) short (omega arith) held,
     )
 
--- one more byte, for which there is none
-pub one_lost : (kept line : List ℕ) (b : ℕ) → kept ≡ take longest line → longest ≤ length kept →
-    (kept ≡ take longest (line ++ (b ∷ []))) × (longest < length (line ++ (b ∷ [])))
-one_lost kept line b front full =
-    let same = kept_length kept line front in
+-- one more byte, for which there is none: what is kept is the same, and the line is too long
+pub one_lost : (line : List ℕ) (b : ℕ) → longest ≤ length (take longest line) →
+    (take longest (line ++ (b ∷ [])) ≡ take longest line) × (longest < length (line ++ (b ∷ [])))
+one_lost line b full =
+    let same = length-take longest line in
     let long : longest ≤ length line = omega arith in
     let longer = length_push line b in
-    (front ∙ sym (take-append-le longest line (b ∷ []) long), omega arith)
+    (take-append-le longest line (b ∷ []) long, omega arith)

@@ -43,6 +43,7 @@ impl LineBuffer {
     }
 
     /// One more byte of the line. Where there is no memory for it, nothing changes.
+    #[tactic(auto, using(std::proofs::lemmas::Grind::common_steps, crate::proofs::Keeping::one_lost))]
     pub fn push(&mut self, byte: u8) -> Result<(), AllocError>
         ensures { (line : List ℕ) → Keeps self.old line → Keeps self.new (if is_ok result then line ++ (byte ∷ []) else line) }
     {

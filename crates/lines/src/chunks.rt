@@ -50,7 +50,7 @@ impl<R: Read> Chunks<R> {
     }
 
     // Reads a chunk, if all of the last one is given. What is to come stays the same. (This and `give` are functions of their own: with all in one, and `next` of
-    // the range, each byte took half as many instructions again.)
+    // the range, a byte took more instructions.)
     fn fill(&mut self) -> io::Result<()>
         ensures { MatchResult result
             (λ _. Keeps (to_come R.remaining self.old) (to_come R.remaining self.new)
