@@ -20,8 +20,8 @@ pub(crate) struct Chunks<R> {
 }
 
 impl<R: Read> Chunks<R> {
-    ghost use Rattle.std.specs.Prelude.{MatchResult};
-    ghost use Rattle.std.specs.Io.KnownBytes.{Keeps, IsAtEnd};
+    ghost use Rattle.std.specs.Prelude.{MatchResult, MatchOption};
+    ghost use Rattle.std.specs.Io.KnownBytes.{Keeps, Consumes, IsAtEnd};
     ghost use Rattle.lines.specs.Chunks.{unread, to_come, GivesByte};
 
     // Contracts say by `to_come` which bytes will be given, and no list is the value of this (an `impl Model`): of the input's it is known for some inputs alone.
@@ -38,19 +38,28 @@ impl<R: Read> Chunks<R> {
         }
     }
 
+    /// The next byte of the chunk that was read last; where all of it is given, none, and nothing changes. (A loop over bytes asks here first: with the
+    /// error that `next_byte` may answer, each byte took a third more instructions.)
+    pub(crate) fn next_waiting(&mut self) -> Option<u8>
+        ensures { MatchOption result
+            ((self.new ≡ self.old) × (self.old.waiting.end ≤ self.old.waiting.start))
+            (λ byte. Consumes (to_come R.remaining self.old) (to_come R.remaining self.new) (byte ∷ [])) }
+    {
+        if self.waiting.is_empty() {
+            return None;
+        }
+        Some(self.give())
+    }
+
     /// The next byte; none at the end of the input. An error loses nothing.
     pub(crate) fn next_byte(&mut self) -> io::Result<Option<u8>>
         ensures { GivesByte (to_come R.remaining self.old) (to_come R.remaining self.new) result }
     {
         self.fill()?;
-        if self.waiting.is_empty() {
-            return Ok(None);
-        }
-        Ok(Some(self.give()))
+        Ok(self.next_waiting())
     }
 
-    // Reads a chunk, if all of the last one is given. What is to come stays the same. (This and `give` are functions of their own: with all in one, and `next` of
-    // the range, a byte took more instructions.)
+    // Reads a chunk, if all of the last one is given. What is to come stays the same.
     fn fill(&mut self) -> io::Result<()>
         ensures { MatchResult result
             (λ _. Keeps (to_come R.remaining self.old) (to_come R.remaining self.new)

@@ -37,7 +37,7 @@ fn byte(high: u8, low: u8) -> Option<u8>
 }
 
 /// The digits two by two, where none is left over.
-#[tactic(auto, using(crate::proofs::Decoding::decoded_by_chunks, crate::proofs::Decoding::decoded_odd))]
+#[tactic(auto, using(std::proofs::lemmas::Grind::common_steps, crate::proofs::Decoding::decoded_by_chunks, crate::proofs::Decoding::decoded_odd))]
 fn pairs(digits: &[u8]) -> Option<&[[u8; 2]]>
     ensures { MatchOption result
         (decoded digits.now ≡ None)

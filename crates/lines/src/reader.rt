@@ -44,7 +44,8 @@ impl<R: Read> LineReader<R> {
         if !self.read()? {
             return Ok(None);
         }
-        Ok(Some(self.line.line()))
+        let line = self.line.line();
+        Ok(Some(line))
     }
 
     /// Reads the next line into the buffer, and says whether there was one. (A function of its own: `next_line` lends the buffer, which is filled before.
@@ -60,7 +61,11 @@ impl<R: Read> LineReader<R> {
         self.line.clear();
         // counted, since each loop is proved to end, and nothing says how long a line is
         for _ in 0..u64::MAX {
-            let Some(byte) = self.input.next_byte()? else {
+            let next = match self.input.next_waiting() {
+                Some(byte) => Some(byte),
+                None => self.input.next_byte()?,
+            };
+            let Some(byte) = next else {
                 return Ok(!self.line.is_empty());
             };
             if byte == LINE_END {

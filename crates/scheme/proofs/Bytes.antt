@@ -94,3 +94,7 @@ no_difference d (x ∷ xs) (y ∷ ys) e =
 
 pub same_if_no_differences : (xs ys : List ℕ) → length xs ≡ length ys → eqb (differences xs ys) 0 ≡ same xs ys
 same_if_no_differences xs ys e = no_difference 0 xs ys e
+
+-- the same, turned, so that `grind` finds it where it meets `same`
+pub same_by_differences : (xs ys : List ℕ) → length xs ≡ length ys → same xs ys ≡ eqb (differences xs ys) 0
+same_by_differences xs ys e = sym (same_if_no_differences xs ys e)

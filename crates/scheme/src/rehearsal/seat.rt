@@ -33,6 +33,7 @@ fn differences(xs: &[u8], ys: &[u8]) -> u8
 }
 
 /// Whether two signatures are equal. It looks at all bytes, wherever they differ.
+#[tactic(auto, using(std::proofs::lemmas::Grind::common_steps, crate::proofs::Bytes::same_by_differences))]
 fn equal(given: &[u8], right: &[u8; SIGNATURE_LENGTH]) -> bool
     ensures { result ≡ same given.now right.now }
 {

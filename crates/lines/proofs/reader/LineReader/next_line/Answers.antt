@@ -12,5 +12,5 @@ returns-in_err-read g c =
 pub returns : goal.returns
 returns g c =
     let read = rw c.if-not-branch.false at c.in_ok-read.ensures in
-    let line = gives_line _ _ c.line.result read.0 read.2 (c.line.ensures read.0 read.1) in
+    let line = gives_line _ _ _ read.0 read.2 (c.line-line.ensures read.0 read.1) in
     ((refl, λ _. tt, line), record { given = (to_come g.R.Read.remaining c.read.new.self.input, line); after_borrow = tt })

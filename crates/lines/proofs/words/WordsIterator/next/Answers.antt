@@ -13,7 +13,7 @@ returns-in-Some-clause-goes c =
 
 pub returns-in-None-clause-steps : goal.returns-in-None-clause-steps
 returns-in-None-clause-steps c =
-    ap left_of (sym c.take.ensures.value ∙ c.in_ok-bytes.was) ∙ last_word c.in_ok-bytes.bytes.now (search rules) ∙ ap (λ o. c.in_ok-bytes.bytes.now ∷ left_of o) (sym c.take.ensures.after)
+    ap left_of (sym c.take.ensures.value ∙ c.in_ok-bytes.was) ∙ last_word c.in_ok-bytes.bytes.now (search rules) ∙ search rules
 
 pub returns-in-None-clause-goes : goal.returns-in-None-clause-goes
 returns-in-None-clause-goes c =
