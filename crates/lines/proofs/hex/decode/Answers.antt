@@ -1,10 +1,12 @@
-use Rattle.std.proofs.Common.{◌+◌, List, ℕ, vec_items, sym, ◌∙◌, subst}
+use Rattle.std.proofs.Common.{◌+◌, List, ℕ, vec_items, sym, ap, ◌∙◌, subst, arith}
+use Rattle.std.proofs.lemmas.Grind.{common_steps}
+use Rattle.lines.specs.Hex.{decoded}
 use Rattle.lines.proofs.Decoding.{Decoding, decoding_more, decoding_stops, decoding_all}
 use Rattle.lines.proofs.hex.decode.Goals as goal
 
 pub returns-in_default-byte : goal.returns-in_default-byte
 returns-in_default-byte c =
-    sym (c.in-Some.ensures.0
+    sym (ap decoded (grind (arith, common_steps)) ∙ c.in-Some.ensures.0
     ∙ decoding_stops c.in-Some.pairs.now c.loop-high.high-index (vec_items c.loop-high.bytes) c.loop-high-test.true c.loop-high.invariant
     (sym c.in_default-byte.ensures))
 
@@ -16,5 +18,5 @@ loop-high-preserved c =
 
 pub returns : goal.returns
 returns c =
-    sym (c.in-Some.ensures.0
+    sym (ap decoded (grind (arith, common_steps)) ∙ c.in-Some.ensures.0
     ∙ decoding_all c.in-Some.pairs.now c.loop-high.high-index (vec_items c.loop-high.bytes) c.loop-high-test.false c.loop-high.invariant)
